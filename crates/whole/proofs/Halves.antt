@@ -1,0 +1,34 @@
+-- The half of a whole number, rounded toward zero as the machine's division by 2 rounds; of an even number it is exact.
+-- Assumes nothing.
+use mathlib.Core.Path.{_≡_, refl, sym, ap, _∙_, subst}
+use Prim.Native.Nat.{ℕ, zero, suc, _+_, _/_, _^_, _<_, _≤_}
+use native.Mathlib.Omega.{arith}
+use lib.IntN.{ℤ, pos, negsuc, negℤ, _+ℤ_}
+use lib.Signed.{quotZ, mag}
+use mir.Syntax.{Width}
+use mir.Val.{SFits, toZ, ofZ, hbits}
+use mir.ValLaws.{toZ-ofZ, sfits-le}
+
+neg-mag : (k n : ℕ) → k ≤ n → mag (negℤ (pos k)) ≤ n
+neg-mag zero n h = omega arith
+neg-mag (suc k) n h = omega arith
+
+half-mag : (z : ℤ) → mag (quotZ z (pos 2)) ≤ mag z
+half-mag (pos n) = omega arith
+half-mag (negsuc n) = neg-mag (suc n / 2) n (omega arith)
+
+-- the half of what was stored and read back fits where the whole does
+pub half-fits : (w : Width) {z : ℤ} → SFits w z → SFits w (quotZ (toZ w (ofZ w z)) (pos 2))
+half-fits w {z} f =
+    subst (λ (y : ℤ). SFits w (quotZ y (pos 2))) (sym (toZ-ofZ w z f)) (sfits-le (half-mag z) f)
+
+neg-half : (n k : ℕ) → k ≡ suc n → negℤ (pos k) ≡ negsuc n
+neg-half n k e = ap (λ (m : ℕ). negℤ (pos m)) e
+
+-- the exact half
+pub half-exact : (h : ℤ) → quotZ (h +ℤ h) (pos 2) ≡ h
+half-exact (pos n) = ap pos (even n)
+  where
+    even : (n : ℕ) → (n + n) / 2 ≡ n
+    even n = omega arith
+half-exact (negsuc n) = neg-half n (suc (suc (n + n)) / 2) (omega arith)
