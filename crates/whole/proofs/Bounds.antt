@@ -5,6 +5,7 @@ use native.Mathlib.Nat.{mul-le-mul, le-trans}
 use lib.IntN.{ℤ, pos, negsuc, negℤ, _+ℤ_, _-ℤ_, _*ℤ_}
 use lib.Signed.{_≤ℤ_, _<ℤ_}
 use Rattle.whole.specs.Between.{Between, Within}
+use Rattle.whole.specs.Sum.{sum}
 use Rattle.whole.proofs.Linear.{up, dn, up-pos, dn-pos, up-neg, dn-neg, up-mul, dn-mul, sum-eq, one-sided, nat-le, le-nat, zsum, znat}
 
 -- ---- a bound, as a bound on up and one on dn
@@ -72,3 +73,10 @@ between-mul {lo} {hi} {lo′} {hi′} {y} {z} b c =
     (one-of (up y) (dn z) (dn y) (up z) _ _ (one-sided y) (mul-le-mul (up-le b) (dn-le c)) (mul-le-mul (dn-le b) (up-le c))))
     (subst (λ (n : ℕ). n ≤ max (hi * hi′) (lo * lo′)) (sym (up-mul y z))
     (one-of (up y) (up z) (dn y) (dn z) _ _ (one-sided y) (mul-le-mul (up-le b) (up-le c)) (mul-le-mul (dn-le b) (dn-le c))))
+
+-- a sum of n numbers, each within b of zero
+pub sum-within : (n b : ℕ) (f : ℕ → ℤ) → ((k : ℕ) → k < n → Within b (f k)) → Within (n * b) (sum n f)
+unfolding sum
+sum-within zero b f h = between (pos 0) (omega (arith, dn-pos 0)) (omega (arith, up-pos 0))
+sum-within (suc n) b f h =
+    between-wider (omega arith) (omega arith) (between-sum (sum-within n b f (λ k l. h k (omega arith))) (h n (omega arith)))

@@ -6,16 +6,19 @@
 -- ensures, and `fits-holds` that an operation does not overflow. Where the bounds are numerals the last argument is `tt`.
 -- Assumes nothing.
 use mathlib.Core.Path.{_≡_, refl, sym, ap, ap₂, _∙_, subst}
-use mathlib.Core.Bool.{Bool, _&&_}
+use mathlib.Core.Bool.{Bool, true, false, _&&_}
 use Prim.Native.Nat.{ℕ, zero, suc, _+_, _*_, _-_, _^_, _≤_, _<_, max}
 use native.Mathlib.Omega.{arith}
 use lib.IntN.{ℤ, pos, negsuc, negℤ, _+ℤ_, _-ℤ_, _*ℤ_}
 use lib.Signed.{_≤ℤ_, _<ℤ_, mag}
-use lib.Dec.{T, leb, ltb, leb→le, ltb→lt}
+use lib.Dec.{T, leb, ltb, eqb, leb→le, ltb→lt}
+use borrow.Author.Tests.{eqb-true, eq-eqb}
 use mir.Syntax.{Width, w32, w64}
 use mir.Val.{SFits, toZ, ofZ, hbits}
 use mir.ValLaws.{toZ-ofZ}
-use Rattle.whole.specs.Between.{Between, Within}
+use Rattle.whole.specs.Between.{Between}
+use Rattle.whole.specs.Tests.{eqZ}
+use Rattle.whole.proofs.TestLaws.{true≢false, not-true-false, eqZ-true, eq-eqZ}
 use Rattle.whole.proofs.Linear.{up, dn, up-pos, dn-pos, up-negsuc, dn-negsuc}
 use Rattle.whole.proofs.Bounds.{up-le, dn-le, between, between-wider, between-sum, between-sub, between-mul}
 
@@ -76,3 +79,20 @@ times a b = record { is = ap₂ (λ (x y : ℤ). x *ℤ y) (a .is) (b .is); boun
 -- a call's result read back: m is what the callee ensures, and fits by its type
 pub returned : (w : Width) {m z : ℤ} → m ≡ z → mag m < 2 ^ hbits w → toZ w (ofZ w m) ≡ z
 returned w {m} e h = toZ-ofZ w m (record { sfits = h }) ∙ e
+
+-- two signed words have the same bits exactly if they are the same number
+pub bits-equal : (w : Width) (a b : ℤ) → mag a < 2 ^ hbits w → mag b < 2 ^ hbits w → eqb (ofZ w a) (ofZ w b) ≡ eqZ a b
+bits-equal w a b f g = go (eqZ a b) refl
+  where
+    same : eqb (ofZ w a) (ofZ w b) ≡ true → a ≡ b
+    same e =
+        sym (toZ-ofZ w a (record { sfits = f })) ∙ ap (λ (n : ℕ). toZ w n) (eqb-true (ofZ w a) (ofZ w b) e)
+        ∙ toZ-ofZ w b (record { sfits = g })
+    go : (t : Bool) → eqZ a b ≡ t → eqb (ofZ w a) (ofZ w b) ≡ eqZ a b
+    go true e = eq-eqb (ofZ w a) (ofZ w b) (ap (λ (z : ℤ). ofZ w z) (eqZ-true a b e)) ∙ sym e
+    go false e =
+        not-true-false (eqb (ofZ w a) (ofZ w b)) (λ t. true≢false (sym (eq-eqZ a b (same t)) ∙ e)) ∙ sym e
+
+-- a signed number that was passed on or stored, read back
+pub read-back : (w : Width) (z : ℤ) → mag z < 2 ^ hbits w → toZ w (ofZ w z) ≡ z
+read-back w z h = toZ-ofZ w z (record { sfits = h })
