@@ -65,8 +65,9 @@ out-more c k p q =
 
 good : (c : List ℤ) (k : ℕ) → k < count c → some (2 * k + 2) (outAt c) ≡ false → Good c k
 good c k h e = record {
-    inX = λ i l. subst (Within 100000) (sym (px-at c i (omega arith))) (out-within c (2 * i) (some-none (2 * k + 2) (outAt c) e (2 * i) (omega arith)));
-    inY = λ i l. subst (Within 100000) (sym (py-at c i (omega arith))) (out-within c (2 * i + 1) (some-none (2 * k + 2) (outAt c) e (2 * i + 1) (omega arith))) }
+  inX = λ i l. subst (Within 100000) (sym (px-at c i (omega arith))) (out-within c (2 * i) (some-none (2 * k + 2) (outAt c) e (2 * i) (omega arith)));
+  inY = λ i l. subst (Within 100000) (sym (py-at c i (omega arith))) (out-within c (2 * i + 1) (some-none (2 * k + 2) (outAt c) e (2 * i + 1) (omega arith)));
+}
 
 pub along-ready : (c : List ℤ) (k : ℕ) (s : Walked) → Along c k s → k < count c → k ≤ 250 → s .out ≡ false → Ready s
 unfolding inside
@@ -75,7 +76,8 @@ along-ready c k s a h l e =
     let r : Clear c k s = a .clear e in
     record {
       inside = ap₂ _&&_ (ap inRange (r .atX) ∙ within-range (px c k) (g .inX k (omega arith))) (ap inRange (r .atY) ∙ within-range (py c k) (g .inY k (omega arith)));
-      small = subst (Within 10000000000000) (sym (r .area)) (between-wider (omega arith) (omega arith) (sum-within k 20000000000 (segment c) (λ i b. segment-within c k i g b))) }
+      small = subst (Within 10000000000000) (sym (r .area)) (between-wider (omega arith) (omega arith) (sum-within k 20000000000 (segment c) (λ i b. segment-within c k i g b)));
+    }
 
 -- ---- the first point
 
@@ -83,12 +85,14 @@ pub along-begun : (c : List ℤ) (p : Point) (s : Walked) → 0 < count c → Po
     → s .at ≡ p → s .area ≡ pos 0 → s .twin ≡ false → s .out ≡ not (inside p) → Along c 0 s
 unfolding sum some
 along-begun c p s h q a r t o = record {
-    out = o ∙ out-more c 0 p q;
-    clear = λ e. record {
-      atX = ap (λ (v : Point). v .x) a ∙ q .x ∙ sym (px-at c 0 h);
-      atY = ap (λ (v : Point). v .y) a ∙ q .y ∙ sym (py-at c 0 h);
-      area = r;
-      twin = t } }
+  out = o ∙ out-more c 0 p q;
+  clear = λ e. record {
+    atX = ap (λ (v : Point). v .x) a ∙ q .x ∙ sym (px-at c 0 h);
+    atY = ap (λ (v : Point). v .y) a ∙ q .y ∙ sym (py-at c 0 h);
+    area = r;
+    twin = t;
+  };
+}
 
 -- ---- one step more
 
@@ -96,26 +100,31 @@ clear-step : (c : List ℤ) (k : ℕ) (s : Walked) (p : Point) (r : Walked) → 
     → Stepped s p r → Clear c (k + 1) r
 unfolding segment twinAt samePoint sum some
 clear-step c k s p r q ex ey t = record {
-    atX = ap (λ (v : Point). v .x) (t .at) ∙ ex;
-    atY = ap (λ (v : Point). v .y) (t .at) ∙ ey;
-    area = t .area ∙ term ∙ sym (sum-one k (segment c));
-    twin = t .twin ∙ ap₂ _||_ (q .twin) same ∙ sym (some-one k (twinAt c)) }
+  atX = ap (λ (v : Point). v .x) (t .at) ∙ ex;
+  atY = ap (λ (v : Point). v .y) (t .at) ∙ ey;
+  area = t .area ∙ term ∙ sym (sum-one k (segment c));
+  twin = t .twin ∙ ap₂ _||_ (q .twin) same ∙ sym (some-one k (twinAt c));
+}
   where
     sum-one : (k : ℕ) (f : ℕ → ℤ) → sum (k + 1) f ≡ sum k f +ℤ f k
     sum-one k f = ap (λ (n : ℕ). sum n f) (add-one k)
+
     some-one : (k : ℕ) (f : ℕ → Bool) → some (k + 1) f ≡ (some k f || f k)
     some-one k f = ap (λ (n : ℕ). some n f) (add-one k)
+
     term : s .area +ℤ (s .at .x *ℤ p .y -ℤ s .at .y *ℤ p .x) ≡ sum k (segment c) +ℤ segment c k
     term = ap₂ _+ℤ_ (q .area) (ap₂ _-ℤ_ (ap₂ _*ℤ_ (q .atX) ey) (ap₂ _*ℤ_ (q .atY) ex ∙ *ℤ-comm (py c k) (px c (k + 1))))
+
     same : samePoint (s .at) p ≡ twinAt c k
     same = ap₂ _&&_ (ap₂ eqZ (q .atX) ex) (ap₂ eqZ (q .atY) ey)
 
 pub along-step : (c : List ℤ) (k : ℕ) (s : Walked) (p : Point) (r : Walked) → Along c k s → k + 1 < count c → PointIs c (k + 1) p
     → WalkedOn s p r → Along c (k + 1) r
 along-step c k s p r a h q w = record {
-    out = w .out ∙ ap (λ (b : Bool). b || not (inside p)) (a .out ∙ ap (λ (i : ℕ). some i (outAt c)) (eq k)) ∙ out-more c (k + 1) p q;
-    clear = λ e. clear-step c k s p r (a .clear (or-false (s .out) (not (inside p)) (sym (w .out) ∙ e) .0))
-      (q .x ∙ sym (px-at c (k + 1) h)) (q .y ∙ sym (py-at c (k + 1) h)) (w .clear e) }
+  out = w .out ∙ ap (λ (b : Bool). b || not (inside p)) (a .out ∙ ap (λ (i : ℕ). some i (outAt c)) (eq k)) ∙ out-more c (k + 1) p q;
+  clear = λ e. clear-step c k s p r (a .clear (or-false (s .out) (not (inside p)) (sym (w .out) ∙ e) .0))
+      (q .x ∙ sym (px-at c (k + 1) h)) (q .y ∙ sym (py-at c (k + 1) h)) (w .clear e);
+}
   where
     eq : (k : ℕ) → 2 * k + 2 ≡ 2 * (k + 1)
     eq k = omega arith
@@ -135,10 +144,13 @@ along-closed c n k s p r e l a q w = go (some (2 * k + 2) (outAt c)) refl
   where
     all : some (length c) (outAt c) ≡ some (2 * k + 2) (outAt c)
     all = ap (λ (i : ℕ). some i (outAt c)) (omega arith)
+
     m : n ≡ count c
     m = counted c n e
+
     out-is : r .out ≡ (some (2 * k + 2) (outAt c) || not (inside p))
     out-is = w .out ∙ ap (λ (b : Bool). b || not (inside p)) (a .out)
+
     go : (t : Bool) → some (2 * k + 2) (outAt c) ≡ t
         → verdictOf (r .out) (r .twin) (r .area) n ≡ verdictOf (some (length c) (outAt c)) (some (count c) (twinAt c)) (twiceArea c) (count c)
     go true t = rw (all, t, out-is, t)
@@ -146,8 +158,8 @@ along-closed c n k s p r e l a q w = go (some (2 * k + 2) (outAt c)) refl
         let clear : r .out ≡ false = out-is ∙ ap₂ _||_ t (inside-first c k p q t) in
         let first : 0 < count c = omega (arith, m) in
         let round : Clear c (k + 1) r = clear-step c k s p r (a .clear (a .out ∙ t))
-                (q .x ∙ sym (px-at c 0 first) ∙ sym (px-round c (k + 1) (sym m ∙ sym l)))
-                (q .y ∙ sym (py-at c 0 first) ∙ sym (py-round c (k + 1) (sym m ∙ sym l))) (w .clear clear) in
+        (q .x ∙ sym (px-at c 0 first) ∙ sym (px-round c (k + 1) (sym m ∙ sym l)))
+        (q .y ∙ sym (py-at c 0 first) ∙ sym (py-round c (k + 1) (sym m ∙ sym l))) (w .clear clear) in
         rw (all, t, clear, round .twin, round .area, l, m)
 
 -- ---- what `walked_on` shows

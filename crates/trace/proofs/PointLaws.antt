@@ -4,7 +4,7 @@ use mathlib.Core.Path.{_≡_, refl, sym, ap, _∙_, subst}
 use mathlib.Core.Bool.{Bool, true, false, not, _&&_}
 use mathlib.Core.List.{List}
 use Prim.Native.Nat.{ℕ, zero, suc, _+_, _*_, _/_, _%_, _≤_, _<_}
-use native.Mathlib.Nat.{mod-eq-of-lt, mod-self, zero-mod}
+use native.Mathlib.Nat.{mod-eq-of-lt, mod-self, mod-lt, zero-mod}
 use native.Mathlib.Omega.{arith}
 use lib.IntN.{ℤ, pos, negsuc, negℤ, _+ℤ_, _-ℤ_, _*ℤ_}
 use lib.Signed.{leZ, _≤ℤ_}
@@ -12,9 +12,10 @@ use lib.ListN.{length, getD}
 use Rattle.whole.specs.Between.{Between, Within}
 use Rattle.whole.specs.Sum.{sum}
 use Rattle.whole.proofs.Order.{leZ-true, le-leZ}
-use Rattle.whole.proofs.Bounds.{between-wider, between-sum, between-sub, between-mul}
+use Rattle.whole.proofs.Bounds.{between-wider, between-sub, between-mul, sum-within}
 use Rattle.whole.proofs.TestLaws.{and-true, true≢false}
 use Rattle.trace.specs.Points.{count, px, py, segment, twiceArea}
+use Rattle.trace.specs.Faults.{Accepted}
 use Rattle.trace.specs.Judged.{inRange, outAt}
 
 -- ---- where point k stands
@@ -74,3 +75,25 @@ not-false false e = absurd (true≢false e)
 pub out-within : (c : List ℤ) (k : ℕ) → outAt c k ≡ false → Within 100000 (getD c k (pos 0))
 unfolding outAt
 out-within c k e = range-within (getD c k (pos 0)) (not-false (inRange (getD c k (pos 0))) e)
+
+-- ---- an accepted trace
+
+in-count : (c : List ℤ) → Accepted c → 0 < count c
+in-count c a = omega (arith, a .enough)
+
+-- every point is in range, whatever the index, since indices run round
+pub accepted-x : {c : List ℤ} → Accepted c → (i : ℕ) → Within 100000 (px c i)
+unfolding px count
+accepted-x {c} a i = a .inRange (2 * (i % count c)) (omega (arith, mod-lt i (in-count c a)))
+
+pub accepted-y : {c : List ℤ} → Accepted c → (i : ℕ) → Within 100000 (py c i)
+unfolding py count
+accepted-y {c} a i = a .inRange (2 * (i % count c) + 1) (omega (arith, mod-lt i (in-count c a)))
+
+-- twice the area is within 5,000,000,000,000 of zero
+pub area-within : {c : List ℤ} → Accepted c → Within 5000000000000 (twiceArea c)
+unfolding twiceArea
+area-within {c} a =
+    let good : Good c (count c) = record { inX = λ i _. accepted-x a i; inY = λ i _. accepted-y a i } in
+    between-wider (omega (arith, a .notMany)) (omega (arith, a .notMany))
+    (sum-within (count c) 20000000000 (segment c) (λ i h. segment-within c (count c) i good h))

@@ -6,7 +6,6 @@ ghost use lib.IntN.{pos};
 ghost use lib.ListN.{length, getD};
 ghost use Rattle.trace.specs.Judged.{judged, inRange, verdictOf};
 ghost use Rattle.trace.specs.Walk.{inside, samePoint, Ready, WalkedOn};
-
 use fault::Fault;
 use whole::cross;
 

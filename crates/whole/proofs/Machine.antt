@@ -88,6 +88,7 @@ bits-equal w a b f g = go (eqZ a b) refl
     same e =
         sym (toZ-ofZ w a (record { sfits = f })) ∙ ap (λ (n : ℕ). toZ w n) (eqb-true (ofZ w a) (ofZ w b) e)
         ∙ toZ-ofZ w b (record { sfits = g })
+
     go : (t : Bool) → eqZ a b ≡ t → eqb (ofZ w a) (ofZ w b) ≡ eqZ a b
     go true e = eq-eqb (ofZ w a) (ofZ w b) (ap (λ (z : ℤ). ofZ w z) (eqZ-true a b e)) ∙ sym e
     go false e =

@@ -64,8 +64,10 @@ some-none (suc n) p e k h = last (some-none n p (both .0) k) (ℕ-discrete k n)
   where
     both : (some n p ≡ false) × (p n ≡ false)
     both = or-false (some n p) (p n) e
+
     below : (k n : ℕ) → k < suc n → (k ≡ n → ⊥) → k < n
     below k n h d = omega arith
+
     last : (k < n → p k ≡ false) → Dec (k ≡ n) → p k ≡ false
     last f (yes q) = ap p q ∙ both .1
     last f (no d) = f (below k n h d)

@@ -22,7 +22,7 @@ unfolding verdictOf
 returns-3 c =
     let all = c .before .before .before .before .before .args .all in
     let turn : leZ (all .area) (pos 0) ≡ true =
-            ap (λ (z : ℤ). leZ z (pos 0)) (sym (read-back w64 (all .area) (c .before .struct-told .given .1 .0 .1))) ∙ c .if3 .taken in
+    ap (λ (z : ℤ). leZ z (pos 0)) (sym (read-back w64 (all .area) (c .before .struct-told .given .1 .0 .1))) ∙ c .if3 .taken in
     rw (c .before .before .before .before .if1 .left, c .before .before .before .if2 .left, turn)
 
 returns-4 : tie.Need-returns-4

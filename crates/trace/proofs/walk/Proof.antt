@@ -32,12 +32,13 @@ loop-holds : tie.Need-loop-holds Inv-loop μ-loop
 loop-holds c =
     let coords = c .before .before .before .args .coords .now in
     let n = c .before .before .before .args .count in
-    let p = c .before .before .point-at .result in
-    (omega arith,
-    along-begun coords p (c .begun .result) (omega (arith, counted coords n (c .before .before .before .pre .0)))
-    (record { x = c .before .before .point-at .ensures .0; y = c .before .before .point-at .ensures .1 })
-    (c .begun .ensures .0) (c .begun .ensures .1) (c .begun .ensures .2)
-    (c .begun .ensures .3 ∙ ap not (c .before .is-inside .ensures)))
+    let p = c .before .before .point-at .result in (
+      omega arith,
+      along-begun coords p (c .begun .result) (omega (arith, counted coords n (c .before .before .before .pre .0)))
+          (record { x = c .before .before .point-at .ensures .0; y = c .before .before .point-at .ensures .1 })
+          (c .begun .ensures .0) (c .begun .ensures .1) (c .begun .ensures .2)
+          (c .begun .ensures .3 ∙ ap not (c .before .is-inside .ensures)),
+    )
 
 add-loop : tie.Need-add-loop Inv-loop μ-loop
 add-loop c = omega arith
@@ -63,12 +64,13 @@ loop-less c = omega arith
 loop-again : tie.Need-loop-again Inv-loop μ-loop
 loop-again c =
     let coords = c .before .before .before .before .before .before .before .args .coords .now in
-    let n = c .before .before .before .before .before .before .before .args .count in
-    (omega arith,
-    along-step coords _ _ (c .before .point-at2 .result) (c .walked-on .result) (c .before .before .before .loop .inv .1)
-    (omega (arith, counted coords n (c .before .before .before .before .before .before .before .pre .0)))
-    (record { x = c .before .point-at2 .ensures .0; y = c .before .point-at2 .ensures .1 })
-    (c .walked-on .ensures))
+    let n = c .before .before .before .before .before .before .before .args .count in (
+      omega arith,
+      along-step coords _ _ (c .before .point-at2 .result) (c .walked-on .result) (c .before .before .before .loop .inv .1)
+          (omega (arith, counted coords n (c .before .before .before .before .before .before .before .pre .0)))
+          (record { x = c .before .point-at2 .ensures .0; y = c .before .point-at2 .ensures .1 })
+          (c .walked-on .ensures),
+    )
 
 walked-on-requires-2 : tie.Need-walked-on-requires-2 Inv-loop μ-loop
 walked-on-requires-2 c κs =

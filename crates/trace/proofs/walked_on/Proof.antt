@@ -65,7 +65,9 @@ returns-3 c =
       clear = λ _. record {
         at = refl;
         area = held w64 (plus (held w64 (from refl (ready .small)) tt) (held w64 (cross-holds _ (s .at) p (ready .inside) in-p (c .before .before .before .before .cross .ensures)) tt)) tt .is;
-        twin = ap (λ (b : Bool). s .twin || b) (c .before .same-point .ensures) } }
+        twin = ap (λ (b : Bool). s .twin || b) (c .before .same-point .ensures);
+      };
+    }
 
 pub walked-on-spec : {M : Type 1} → statement M
 walked-on-spec =
