@@ -5,8 +5,10 @@ ghost use Prim.Native.Nat.{_+_, _*_, _≤_, _<_};
 ghost use lib.IntN.{pos};
 ghost use lib.ListN.{length, getD};
 ghost use Rattle.trace.specs.Judged.{judged, inRange, verdictOf};
+ghost use Rattle.trace.specs.Pair.{refusalOf};
 ghost use Rattle.trace.specs.Walk.{inside, samePoint, Ready, WalkedOn};
 use fault::Fault;
+use fault::Refusal;
 use whole::cross;
 
 pub enum Judgement {
@@ -30,6 +32,20 @@ pub fn judge(coords: &[i32]) -> Judgement
         return Judgement::Unfit(Fault::Many);
     }
     walk(coords, count)
+}
+
+// The refusal of a call whose trace at `place` is not fit. Every refusal of a trace is made here. (A fit trace has none: what is
+// answered for it, SHAPE, is not asked for.)
+pub fn refused(judgement: Judgement, place: usize) -> Refusal
+    ensures { λ r. ⌜ r ≡ refusalOf judgement place ⌝ }
+{
+    match judgement {
+        Judgement::Unfit(fault) => Refusal { fault, place },
+        Judgement::Fit { area: _, count: _ } => Refusal {
+            fault: Fault::Shape,
+            place,
+        },
+    }
 }
 
 struct Point {

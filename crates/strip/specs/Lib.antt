@@ -1,0 +1,4 @@
+-- The strip between two traces: the worth of a step, the value W, the bytes of a strip, and judging one made elsewhere.
+pub mod Worth
+pub mod Bytes
+pub mod Judging

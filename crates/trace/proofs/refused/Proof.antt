@@ -1,0 +1,22 @@
+-- `trace::refused` meets its contract: each arm is one case of the definition. Assumes nothing.
+use mathlib.Core.Path.{sym, ap}
+use borrow.Author.Needs.{needs}
+use Rattle.trace.specs.declared.Judgement.{Judgement}
+use Rattle.trace.specs.Pair.{refusalOf}
+use Rattle.trace.proofs.refused.Statement.{statement}
+use Rattle.trace.proofs.refused.Tie as tie
+
+enum-known-judgement : tie.Need-enum-known-judgement
+enum-known-judgement c = search needs
+
+enum-told : tie.Need-enum-told
+enum-told c = search needs
+
+returns : tie.Need-returns
+returns c = ap (λ (j : Judgement). refusalOf j (c .before .before .before .args .place)) (sym (c .before .judgement .given .1))
+
+returns-2 : tie.Need-returns-2
+returns-2 c = ap (λ (j : Judgement). refusalOf j (c .before .before .args .place)) (sym (c .enum-told .given .1))
+
+pub refused-spec : {M : Type 1} → statement M
+refused-spec = tie.close (tie.spec enum-known-judgement enum-told returns returns-2)
