@@ -9,12 +9,12 @@ use mathlib.Core.Path.{_≡_, refl, sym, ap, ap₂, _∙_, subst}
 use mathlib.Core.Bool.{Bool, true, false, _&&_}
 use Prim.Native.Nat.{ℕ, zero, suc, _+_, _*_, _-_, _^_, _≤_, _<_, max}
 use native.Mathlib.Omega.{arith}
-use lib.IntN.{ℤ, pos, negsuc, negℤ, _+ℤ_, _-ℤ_, _*ℤ_}
-use lib.Signed.{_≤ℤ_, _<ℤ_, mag}
+use lib.IntN.{ℤ, pos, negsuc, natAbs, _+ℤ_, _-ℤ_, _*ℤ_}
+use lib.Signed.{mag, ltZ, nonNeg}
 use lib.Dec.{T, leb, ltb, eqb, leb→le, ltb→lt}
-use borrow.Author.Tests.{eqb-true, eq-eqb}
+use borrow.Author.Tests.{ltb-true, eqb-true, eq-eqb}
 use mir.Syntax.{Width, w32, w64}
-use mir.Val.{SFits, toZ, ofZ, hbits}
+use mir.Val.{Fits, SFits, toZ, ofZ, sel, hbits}
 use mir.ValLaws.{toZ-ofZ}
 use Rattle.whole.specs.Between.{Between}
 use Rattle.whole.specs.Tests.{eqZ}
@@ -97,3 +97,12 @@ bits-equal w a b f g = go (eqZ a b) refl
 -- a signed number that was passed on or stored, read back
 pub read-back : (w : Width) (z : ℤ) → mag z < 2 ^ hbits w → toZ w (ofZ w z) ≡ z
 read-back w z h = toZ-ofZ w z (record { sfits = h })
+
+-- bits that read as a number above zero are that number without a sign too
+pub to-unsigned : (n : ℕ) → ltZ (pos 0) (toZ w64 n) ≡ true → T (nonNeg (toZ w64 n)) × Fits w64 (natAbs (toZ w64 n))
+to-unsigned n = go (ltb n (2 ^ 63)) refl
+  where
+    go : (t : Bool) → ltb n (2 ^ 63) ≡ t → ltZ (pos 0) (sel t (pos n) (negsuc (2 ^ 64 - suc n))) ≡ true
+        → T (nonNeg (sel t (pos n) (negsuc (2 ^ 64 - suc n)))) × Fits w64 (natAbs (sel t (pos n) (negsuc (2 ^ 64 - suc n))))
+    go true t e = (tt, record { fits = omega (arith, ltb-true n (2 ^ 63) t) })
+    go false t e = absurd (true≢false (sym e))
