@@ -4,6 +4,7 @@ pub mod Way
 pub mod Tight
 pub mod Greatest
 pub mod Traced
+pub mod TopLaws
 pub mod Unique
 pub mod Complete
 pub mod Runs

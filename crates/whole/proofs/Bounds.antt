@@ -74,9 +74,12 @@ between-mul {lo} {hi} {lo′} {hi′} {y} {z} b c =
     (subst (λ (n : ℕ). n ≤ max (hi * hi′) (lo * lo′)) (sym (up-mul y z))
     (one-of (up y) (up z) (dn y) (dn z) _ _ (one-sided y) (mul-le-mul (up-le b) (up-le c)) (mul-le-mul (dn-le b) (dn-le c))))
 
+pub zero-within : (b : ℕ) → Within b (pos 0)
+zero-within b = between (pos 0) (omega (arith, dn-pos 0)) (omega (arith, up-pos 0))
+
 -- a sum of n numbers, each within b of zero
 pub sum-within : (n b : ℕ) (f : ℕ → ℤ) → ((k : ℕ) → k < n → Within b (f k)) → Within (n * b) (sum n f)
 unfolding sum
-sum-within zero b f h = between (pos 0) (omega (arith, dn-pos 0)) (omega (arith, up-pos 0))
+sum-within zero b f h = zero-within (zero * b)
 sum-within (suc n) b f h =
     between-wider (omega arith) (omega arith) (between-sum (sum-within n b f (λ k l. h k (omega arith))) (h n (omega arith)))

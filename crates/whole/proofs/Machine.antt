@@ -16,7 +16,7 @@ use borrow.Author.Tests.{ltb-true, eqb-true, eq-eqb}
 use mir.Syntax.{Width, w32, w64}
 use mir.Val.{Fits, SFits, toZ, ofZ, sel, hbits}
 use mir.ValLaws.{toZ-ofZ}
-use Rattle.whole.specs.Between.{Between}
+use Rattle.whole.specs.Between.{Between, Within}
 use Rattle.whole.specs.Tests.{eqZ}
 use Rattle.whole.proofs.TestLaws.{true≢false, not-true-false, eqZ-true, eq-eqZ}
 use Rattle.whole.proofs.Linear.{up, dn, up-pos, dn-pos, up-negsuc, dn-negsuc}
@@ -106,3 +106,7 @@ to-unsigned n = go (ltb n (2 ^ 63)) refl
         → T (nonNeg (sel t (pos n) (negsuc (2 ^ 64 - suc n)))) × Fits w64 (natAbs (sel t (pos n) (negsuc (2 ^ 64 - suc n))))
     go true t e = (tt, record { fits = omega (arith, ltb-true n (2 ^ 63) t) })
     go false t e = absurd (true≢false (sym e))
+
+-- a bound on a number is one on the number read back
+pub passed : (w : Width) {b : ℕ} {z : ℤ} → Within b z → T (inside w b b) → Within b (toZ w (ofZ w z))
+passed w {b} {z} h t = subst (Within b) (sym (held w (from refl h) t .is)) h

@@ -1,0 +1,3 @@
+-- The best strips between two traces.
+pub mod Cells
+pub mod Table

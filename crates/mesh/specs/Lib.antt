@@ -1,0 +1,3 @@
+-- The closed triangle list and six times its volume.
+pub mod Triangles
+pub mod Volume

@@ -1,0 +1,1 @@
+// The closed triangle list of a stack, and six times its volume.
