@@ -2,3 +2,4 @@
 pub mod Worth
 pub mod Bytes
 pub mod Judging
+pub mod Walk

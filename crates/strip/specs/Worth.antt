@@ -1,7 +1,7 @@
 -- 01, "Strip, value, order": what a step is worth, "with small letters for A and capitals for B".
 use mathlib.Core.List.{List}
 use Prim.Native.Nat.{ℕ, _+_}
-use lib.IntN.{ℤ, _-ℤ_, _*ℤ_}
+use lib.IntN.{ℤ, pos, _-ℤ_, _*ℤ_}
 use Rattle.trace.specs.Points.{px, py}
 use Rattle.ways.specs.Strip.{Step}
 use Rattle.ways.specs.Value.{Worths, value}
@@ -20,3 +20,11 @@ worths a b = record { worthA = worthA a b; worthB = worthB a b }
 -- "The value W is their sum"
 abbrev pub W : List ℤ → List ℤ → List Step → ℤ
 W a b s = value (worths a b) s
+
+-- the sum of the A steps' worths alone, and of the B steps': 01, "Over a whole strip the A steps and the B steps add up to the
+-- same amount."
+abbrev pub partA : List ℤ → List ℤ → List Step → ℤ
+partA a b s = value (record { worthA = worthA a b; worthB = λ _ _. pos 0 }) s
+
+abbrev pub partB : List ℤ → List ℤ → List Step → ℤ
+partB a b s = value (record { worthA = λ _ _. pos 0; worthB = worthB a b }) s

@@ -1,4 +1,5 @@
 -- Laws of one trace for the crates above, and the theorems on its judgement (Exact).
 pub mod PointLaws
 pub mod Exact
+pub mod PairLaws
 mod Along

@@ -1,0 +1,8 @@
+-- Laws of the worth and the value of a strip for the crates above, and the theorems on judging one (Exact).
+pub mod WorthLaws
+pub mod ValueLaws
+pub mod SameAmount
+pub mod BytesLaws
+pub mod Exact
+mod Along
+mod StepLaws
