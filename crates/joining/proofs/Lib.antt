@@ -1,3 +1,9 @@
+pub mod CellLaws
+pub mod CopyLaws
+pub mod OutlineLaws
 pub mod ChoiceLaws
 pub mod RowLaws
 pub mod TableLaws
+pub mod BackLaws
+pub mod MarkLaws
+pub mod BestLaws

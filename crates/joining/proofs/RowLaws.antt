@@ -5,6 +5,7 @@ use mathlib.Core.Bool.{Bool, true, false}
 use mathlib.Core.List.{List}
 use Prim.Native.Nat.{ℕ, zero, suc, _+_, _*_, _≤_, _<_}
 use native.Mathlib.Decide.{ℕ-discrete}
+use native.Mathlib.Nat.{mul-le-mul}
 use native.Mathlib.Omega.{arith}
 use lib.IntN.{ℤ, pos, _+ℤ_}
 use lib.ListN.{length, getD, drop, set, length-set}
@@ -16,6 +17,7 @@ use Rattle.ways.specs.Value.{Worths}
 use Rattle.ways.specs.Keppel.{top, pointer, alsoB, maxℤ}
 use Rattle.ways.proofs.TopLaws.{top-left, top-cell, pointer-cell, alsoB-cell, pointer-left, alsoB-left, top-within}
 use Rattle.joining.specs.Cells.{cellOf, room, Put}
+use Rattle.joining.proofs.CellLaws.{room-fits}
 use Rattle.joining.specs.Table.{Outline, worthsOf, Bounded, markOf, cellAt, CellReady, CellDone, RowAt, RowMarked, Ready}
 
 -- ---- the table's values are far inside an i64
@@ -34,6 +36,10 @@ values-within {p} {q} b d i j h k =
 pub mark-cell : (w : Worths) (i j : ℕ) (s t : Bool) → s ≡ pointer w i j → t ≡ alsoB w i j → boolByte s + 2 * boolByte t ≡ markOf w i j
 unfolding markOf
 mark-cell w i j s t p q = ap₂ (λ (a b : Bool). boolByte a + 2 * boolByte b) p q
+
+-- the cells of a table are few
+pub cells-few : (m n : ℕ) → m ≤ 250 → n ≤ 250 → (m + 1) * (n + 1) ≤ 63001
+cells-few m n h k = mul-le-mul {n₁ = m + 1} {m₁ = n + 1} {n₂ = 251} {m₂ = 251} (omega arith) (omega arith)
 
 -- ---- a row, up to column j
 
@@ -77,7 +83,8 @@ row-ready p q i n at j row work₀ work r e s h = record {
   bounded′ = r .bounded′;
   inI = omega (arith, r .fewA);
   inJ = omega (arith, r .fewB);
-  inWork = omega (arith, r .enough, s .long);
+  inCells = omega (arith, cells-few (i + 1) n (r .fewA) (r .fewB));
+  inWork = room-fits {b = (i + 1 + 1) * (n + 1)} (omega arith) (omega (arith, r .enough, s .long));
   up = subst (Within 1000000000000000) (sym (s .todo (j + 1) (omega arith) (omega arith)))
       (values-within (r .bounded) (r .bounded′) i (j + 1) (omega (arith, r .fewA)) (omega (arith, r .fewB)));
   left = subst (Within 1000000000000000) (sym (s .done j (omega arith)))

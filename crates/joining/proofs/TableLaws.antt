@@ -18,6 +18,7 @@ use Rattle.ways.specs.Keppel.{top, pointer, alsoB}
 use Rattle.ways.proofs.TopLaws.{Agree, top-agree, top-origin, top-first, pointer-first, alsoB-left, alsoB-first}
 use Rattle.joining.specs.Cells.{cellOf, room, Put}
 use Rattle.joining.specs.Table.{Outline, outline, worthsOf, Bounded, markOf, cellAt, BorderReady, BorderDone, RowAt, RowMarked, Ready, Filled}
+use Rattle.joining.proofs.CellLaws.{room-fits}
 use Rattle.joining.proofs.RowLaws.{values-within, mark-cell}
 
 -- ---- the first row, up to column j
@@ -54,7 +55,7 @@ first-ready p q n j row work₀ work r s h = record {
   bounded = r .bounded;
   bounded′ = r .bounded′;
   inJ = omega (arith, r .fewB);
-  inWork = omega (arith, r .enough, s .long);
+  inWork = room-fits {b = (0 + 1) * (n + 1)} (omega arith) (omega (arith, r .enough, s .long));
   left = subst (Within 1000000000000000) (sym (s .done j (omega arith)))
       (values-within (r .bounded) (r .bounded′) 0 j (omega arith) (omega (arith, r .fewB)));
 }
@@ -180,7 +181,7 @@ ready-first p q m n work r = record {
   bounded′ = record { x = λ k. zero-within 100000; y = λ k. zero-within 100000; dx = r .bounded′ .dx; dy = r .bounded′ .dy };
   fewA = omega arith;
   fewB = r .fewB;
-  enough = omega (arith, r .enough);
+  enough = room-fits {b = (m + 1) * (n + 1)} (omega arith) (r .enough);
 }
 
 pub ready-row : (p q : Outline) (m n i : ℕ) (work work′ : List ℕ) → Ready p q m n work → length work′ ≡ length work → i < m
@@ -190,5 +191,6 @@ ready-row p q m n i work work′ r e h = record {
   bounded′ = r .bounded′;
   fewA = omega (arith, r .fewA);
   fewB = r .fewB;
-  enough = omega (arith, r .enough, mul-le-mul-right {m = i + 1 + 1} {n = m + 1} (n + 1) (omega arith));
+  enough =
+      room-fits {b = (m + 1) * (n + 1)} (mul-le-mul-right {m = i + 1 + 1} {n = m + 1} (n + 1) (omega arith)) (omega (arith, r .enough));
 }

@@ -55,7 +55,8 @@ pub record CellReady (p q : Outline) (i j at : ℕ) (row : List ℤ) (work : Lis
   pub bounded′ : Bounded q
   pub inI : i + 1 < 251
   pub inJ : j + 1 < 251
-  pub inWork : at + j + 1 < length work
+  pub inCells : at + j + 1 < 63001
+  pub inWork : room (at + j + 1 + 1) ≤ length work
   pub up : Within 1000000000000000 (getD row (j + 1) (pos 0))
   pub left : Within 1000000000000000 (getD row j (pos 0))
 
@@ -71,7 +72,7 @@ pub record BorderReady (p q : Outline) (j : ℕ) (row : List ℤ) (work : List �
   pub bounded : Bounded p
   pub bounded′ : Bounded q
   pub inJ : j + 1 < 251
-  pub inWork : j + 1 < length work
+  pub inWork : room (j + 1 + 1) ≤ length work
   pub left : Within 1000000000000000 (getD row j (pos 0))
 
 pub record BorderDone (p q : Outline) (j : ℕ) (row : List ℤ) (work : List ℕ) (row′ : List ℤ) (work′ : List ℕ) : Type 0 where
@@ -88,7 +89,7 @@ pub record Ready (p q : Outline) (m n : ℕ) (work : List ℕ) : Type 0 where
   pub bounded′ : Bounded q
   pub fewA : m ≤ 250
   pub fewB : n ≤ 250
-  pub enough : (m + 1) * (n + 1) ≤ length work
+  pub enough : room ((m + 1) * (n + 1)) ≤ length work
 
 -- row i is marked, nothing before it and nothing behind the table is changed
 pub record RowMarked (w : Worths) (i n : ℕ) (work work′ : List ℕ) : Type 0 where

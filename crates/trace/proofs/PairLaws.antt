@@ -73,3 +73,12 @@ pub counts : {c : List ℤ} {j : Judgement} {area : ℤ} {n : ℕ} → j ≡ jud
 counts {c} {area = area} {n = n} p q =
     let e = fit-exactly c area n .0 (sym p ∙ q) in
     record { accepted = e .0; counted = e .2 }
+
+-- both are accepted, and m and n are the numbers of their points
+pub record PairCounts (a b : List ℤ) (m n : ℕ) : Type 0 where
+  pub pair : Pair a b
+  pub countA : m ≡ count a
+  pub countB : n ≡ count b
+
+pub pair-counts : {a b : List ℤ} {m n : ℕ} → Counts a m → Counts b n → PairCounts a b m n
+pair-counts x y = record { pair = record { lower = x .accepted; upper = y .accepted }; countA = x .counted; countB = y .counted }

@@ -1,12 +1,13 @@
 -- `joining::marks::mark_at` meets its contract: a cell is a byte. Assumes nothing.
 use mathlib.Core.Path.{refl}
-use borrow.Author.Needs.{needs}
-use Rattle.joining.specs.Cells.{cellOf}
+use native.Mathlib.Omega.{arith}
+use Rattle.joining.specs.Cells.{cellOf, room}
 use Rattle.joining.proofs.marks.mark_at.Statement.{statement}
 use Rattle.joining.proofs.marks.mark_at.Tie as tie
 
 shared-slice-read-result : tie.Need-shared-slice-read-result
-shared-slice-read-result c = search needs
+unfolding room
+shared-slice-read-result c = omega arith
 
 returns : tie.Need-returns
 unfolding cellOf

@@ -2,12 +2,14 @@
 use lib.ListN.{length-set}
 use lib.Seq.{getD-set-same, getD-set-other, drop-set-lt}
 use borrow.Author.Needs.{needs}
+use native.Mathlib.Omega.{arith}
 use Rattle.joining.specs.Cells.{cellOf, room}
 use Rattle.joining.proofs.marks.put_mark.Statement.{statement}
 use Rattle.joining.proofs.marks.put_mark.Tie as tie
 
 slice-write-work : tie.Need-slice-write-work
-slice-write-work c = search needs
+unfolding room
+slice-write-work c = omega arith
 
 same-length : tie.Need-same-length
 same-length c = search needs
@@ -20,7 +22,7 @@ returns c =
     let mark = c .args .mark in
     record {
       long = length-set l k mark;
-      here = getD-set-same l k mark 0 (c .pre);
+      here = getD-set-same l k mark 0 (omega arith);
       others = λ i h. getD-set-other l k i mark 0 h;
       rest = λ n h. drop-set-lt n l k mark h;
     }

@@ -1,9 +1,10 @@
 -- `joining::table::first_row` meets its contract, by the invariant `FirstSo`. Assumes nothing.
 use mathlib.Core.List.{[]}
-use Prim.Native.Nat.{_-_}
+use Prim.Native.Nat.{_+_, _*_, _-_}
 use native.Mathlib.Omega.{arith}
 use borrow.Author.Needs.{needs}
 use Rattle.joining.specs.Table.{outline, worthsOf}
+use Rattle.joining.proofs.CellLaws.{room-fits}
 use Rattle.joining.proofs.RowLaws.{ready-put}
 use Rattle.joining.proofs.TableLaws.{FirstSo, first-begun, first-ready, first-more, first-done}
 use Rattle.joining.proofs.table.first_row.Statement.{statement}
@@ -20,7 +21,7 @@ element-set-of-row : tie.Need-element-set-of-row Inv-loop μ-loop
 element-set-of-row c = search needs
 
 put-mark-requires : tie.Need-put-mark-requires Inv-loop μ-loop
-put-mark-requires c κs = omega (arith, c .before .before .pre .0 .enough)
+put-mark-requires c κs = room-fits {b = (0 + 1) * (c .before .before .args .n + 1)} (omega arith) (c .before .before .pre .0 .enough)
 
 loop-holds : tie.Need-loop-holds Inv-loop μ-loop
 loop-holds c =

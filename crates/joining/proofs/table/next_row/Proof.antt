@@ -7,8 +7,9 @@ use lib.IntN.{ℤ, _+ℤ_}
 use mir.Syntax.{w32, w64}
 use Rattle.whole.proofs.Machine.{passed, returned}
 use Rattle.joining.specs.Table.{outline, worthsOf}
+use Rattle.joining.proofs.CellLaws.{room-fits}
 use Rattle.joining.proofs.ChoiceLaws.{via-is}
-use Rattle.joining.proofs.RowLaws.{RowSo, ready-put, row-end, row-within, row-begun, row-ready, row-more, row-done}
+use Rattle.joining.proofs.RowLaws.{cells-few, RowSo, ready-put, row-end, row-within, row-begun, row-ready, row-more, row-done}
 use Rattle.joining.proofs.table.next_row.Statement.{statement}
 use Rattle.joining.proofs.table.next_row.Tie as tie
 
@@ -26,7 +27,8 @@ add-at-2 : tie.Need-add-at-2 Inv-loop μ-loop
 add-at-2 c = search needs
 
 mul-at : tie.Need-mul-at Inv-loop μ-loop
-mul-at c = search needs
+mul-at c =
+    omega (arith, cells-few (c .before .args .i + 1) (c .before .args .n) (c .before .pre .0 .fewA) (c .before .pre .0 .fewB))
 
 element-copy-out-via : tie.Need-element-copy-out-via Inv-loop μ-loop
 element-copy-out-via c = search needs
@@ -64,7 +66,8 @@ element-set-from-start : tie.Need-element-set-from-start Inv-loop μ-loop
 element-set-from-start c = search needs
 
 put-mark-requires : tie.Need-put-mark-requires Inv-loop μ-loop
-put-mark-requires c κs = omega (arith, c .before .before .before .before .before .before .before .before .pre .0 .enough)
+put-mark-requires c κs =
+    room-fits {b = (c .before .before .before .before .before .before .before .before .args .i + 1 + 1) * (c .before .before .before .before .before .before .before .before .args .n + 1)} (omega arith) (c .before .before .before .before .before .before .before .before .pre .0 .enough)
 
 loop-holds : tie.Need-loop-holds Inv-loop μ-loop
 loop-holds c =

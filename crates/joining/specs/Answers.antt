@@ -1,0 +1,64 @@
+-- 01, demands 2 and 3, "What comes back" and "Room for a pair": what `best` and `next` answer, and every lent byte.
+use mathlib.Core.Path.{_≡_}
+use mathlib.Core.List.{List, _++_}
+use Prim.Native.Nat.{ℕ, _+_, _*_, _≤_}
+use lib.ListN.{length, take, drop, replicate}
+use lib.IntN.{ℤ}
+use Rattle.fault.specs.declared.Refusal.{Refusal}
+use Rattle.fault.specs.declared.Fault.the-variants.{Room, Strip, Below}
+use Rattle.trace.specs.Points.{count}
+use Rattle.trace.specs.Pair.{at, Pair, PairRefused}
+use Rattle.ways.specs.Strip.{Step}
+use Rattle.ways.specs.Strip as Ways
+use Rattle.ways.specs.Best.{Best, FirstBest, NextBest, NoneLeft}
+use Rattle.strip.specs.Worth.{W}
+use Rattle.strip.specs.Bytes.{bytes, IsStrip}
+use Rattle.strip.specs.declared.Valued.{Valued}
+use Rattle.strip.specs.declared.Valued.the-variants.{Value, Refused}
+
+-- the strips between two traces, and what best, first, next and none left mean for them: the value is Keppel's sum
+abbrev pub Between : List ℤ → List ℤ → List Step → Type 0
+Between a b s = Ways.Strip (count a) (count b) s
+
+abbrev pub BestOf : List ℤ → List ℤ → List Step → Type 0
+BestOf a b s = Best (Between a b) (W a b) s
+
+abbrev pub FirstOf : List ℤ → List ℤ → List Step → Type 0
+FirstOf a b s = FirstBest (Between a b) (W a b) s
+
+abbrev pub NextOf : List ℤ → List ℤ → List Step → List Step → Type 0
+NextOf a b s t = NextBest (Between a b) (W a b) s t
+
+abbrev pub NoneLeftOf : List ℤ → List ℤ → List Step → Type 0
+NoneLeftOf a b s = NoneLeft (Between a b) (W a b) s
+
+-- "Room for a pair: m+n strip bytes, and (m+1)(n+1) work bytes"
+abbrev pub stripBytes : List ℤ → List ℤ → ℕ
+stripBytes a b = count a + count b
+
+abbrev pub workBytes : List ℤ → List ℤ → ℕ
+workBytes a b = (count a + 1) * (count b + 1)
+
+pub record Enough (a b : List ℤ) (strip work : List ℕ) : Type 0 where
+  pub forStrip : stripBytes a b ≤ length strip
+  pub forWork : workBytes a b ≤ length work
+
+-- "After success the strip's bytes stand at the front, the rest of that slice is as before, and the used work bytes are zero."
+pub record Given (a b : List ℤ) (s : List Step) (strip strip′ : List ℕ) : Type 0 where
+  pub front : strip′ ≡ bytes s ++ drop (stripBytes a b) strip
+
+pub record Cleared (a b : List ℤ) (work work′ : List ℕ) : Type 0 where
+  pub zeros : work′ ≡ replicate (workBytes a b) 0 ++ drop (workBytes a b) work
+
+-- "Each refusal returns number and place only; the lent memory is untouched."
+pub record Untouched (strip work strip′ work′ : List ℕ) : Type 0 where
+  pub stripSame : strip′ ≡ strip
+  pub workSame : work′ ≡ work
+
+-- `best`: a refusal of the traces, ROOM at 0, or the first best strip with its value
+pub data BestAnswer (a b : List ℤ) (strip work strip′ work′ : List ℕ) : Valued → Type 0 where
+  pair : {r : Refusal} → PairRefused a b r → Untouched strip work strip′ work′ → BestAnswer a b strip work strip′ work′ (Refused r)
+  room : Pair a b → (Enough a b strip work → ⊥) → Untouched strip work strip′ work′
+      → BestAnswer a b strip work strip′ work′ (Refused (at Room 0))
+  best : Pair a b → Enough a b strip work → (s : List Step) → FirstOf a b s → Given a b s strip strip′ → Cleared a b work work′
+      → BestAnswer a b strip work strip′ work′ (Value (W a b s))
