@@ -7,3 +7,6 @@ pub mod TableLaws
 pub mod BackLaws
 pub mod MarkLaws
 pub mod BestLaws
+pub mod TurnLaws
+pub mod NextLaws
+pub mod FollowLaws

@@ -4,17 +4,22 @@ use mathlib.Core.List.{List, _++_}
 use Prim.Native.Nat.{ℕ, _+_, _*_, _≤_}
 use lib.ListN.{length, take, drop, replicate}
 use lib.IntN.{ℤ}
+use lib.Signed.{_<ℤ_}
 use Rattle.fault.specs.declared.Refusal.{Refusal}
 use Rattle.fault.specs.declared.Fault.the-variants.{Room, Strip, Below}
 use Rattle.trace.specs.Points.{count}
 use Rattle.trace.specs.Pair.{at, Pair, PairRefused}
 use Rattle.ways.specs.Strip.{Step}
 use Rattle.ways.specs.Strip as Ways
-use Rattle.ways.specs.Best.{Best, FirstBest, NextBest, NoneLeft}
+use Rattle.ways.specs.Best.{Best, FirstBest, NextBest}
+use Rattle.ways.specs.Best as Ways-best
 use Rattle.strip.specs.Worth.{W}
 use Rattle.strip.specs.Bytes.{bytes, IsStrip}
 use Rattle.strip.specs.declared.Valued.{Valued}
-use Rattle.strip.specs.declared.Valued.the-variants.{Value, Refused}
+use Rattle.strip.specs.declared.Valued.the-variants.{Value}
+use Rattle.strip.specs.declared.Valued.the-variants as Valued
+use Rattle.joining.specs.declared.Followed.{Followed}
+use Rattle.joining.specs.declared.Followed.the-variants.{Next, NoneLeft, Refused}
 
 -- the strips between two traces, and what best, first, next and none left mean for them: the value is Keppel's sum
 abbrev pub Between : List ℤ → List ℤ → List Step → Type 0
@@ -30,7 +35,7 @@ abbrev pub NextOf : List ℤ → List ℤ → List Step → List Step → Type 0
 NextOf a b s t = NextBest (Between a b) (W a b) s t
 
 abbrev pub NoneLeftOf : List ℤ → List ℤ → List Step → Type 0
-NoneLeftOf a b s = NoneLeft (Between a b) (W a b) s
+NoneLeftOf a b s = Ways-best.NoneLeft (Between a b) (W a b) s
 
 -- "Room for a pair: m+n strip bytes, and (m+1)(n+1) work bytes"
 abbrev pub stripBytes : List ℤ → List ℤ → ℕ
@@ -55,10 +60,29 @@ pub record Untouched (strip work strip′ work′ : List ℕ) : Type 0 where
   pub stripSame : strip′ ≡ strip
   pub workSame : work′ ≡ work
 
+-- the strip handed in
+abbrev pub HandedIn : List ℤ → List ℤ → List ℕ → Type 0
+HandedIn a b strip = IsStrip (count a) (count b) (take (stripBytes a b) strip)
+
 -- `best`: a refusal of the traces, ROOM at 0, or the first best strip with its value
 pub data BestAnswer (a b : List ℤ) (strip work strip′ work′ : List ℕ) : Valued → Type 0 where
-  pair : {r : Refusal} → PairRefused a b r → Untouched strip work strip′ work′ → BestAnswer a b strip work strip′ work′ (Refused r)
+  pair : {r : Refusal} → PairRefused a b r → Untouched strip work strip′ work′ → BestAnswer a b strip work strip′ work′ (Valued.Refused r)
   room : Pair a b → (Enough a b strip work → ⊥) → Untouched strip work strip′ work′
-      → BestAnswer a b strip work strip′ work′ (Refused (at Room 0))
+      → BestAnswer a b strip work strip′ work′ (Valued.Refused (at Room 0))
   best : Pair a b → Enough a b strip work → (s : List Step) → FirstOf a b s → Given a b s strip strip′ → Cleared a b work work′
       → BestAnswer a b strip work strip′ work′ (Value (W a b s))
+
+-- `next`: a refusal of the traces, ROOM, STRIP or BELOW at 0; the strip that comes next after the one handed in, in its place, with
+-- the greatest value; or none left. "The strip handed in for a next one stands at the front of its slice".
+pub data NextAnswer (a b : List ℤ) (strip work strip′ work′ : List ℕ) : Followed → Type 0 where
+  pair : {r : Refusal} → PairRefused a b r → Untouched strip work strip′ work′ → NextAnswer a b strip work strip′ work′ (Refused r)
+  room : Pair a b → (Enough a b strip work → ⊥) → Untouched strip work strip′ work′
+      → NextAnswer a b strip work strip′ work′ (Refused (at Room 0))
+  noStrip : Pair a b → Enough a b strip work → (HandedIn a b strip → ⊥) → Untouched strip work strip′ work′
+      → NextAnswer a b strip work strip′ work′ (Refused (at Strip 0))
+  below : Pair a b → Enough a b strip work → (s : HandedIn a b strip) → {t : List Step} → Between a b t → W a b (s .steps) <ℤ W a b t
+      → Untouched strip work strip′ work′ → NextAnswer a b strip work strip′ work′ (Refused (at Below 0))
+  next : Pair a b → Enough a b strip work → (s : HandedIn a b strip) → BestOf a b (s .steps) → (t : List Step) → NextOf a b (s .steps) t
+      → Given a b t strip strip′ → Cleared a b work work′ → NextAnswer a b strip work strip′ work′ (Next (W a b t))
+  noneLeft : Pair a b → Enough a b strip work → (s : HandedIn a b strip) → BestOf a b (s .steps) → NoneLeftOf a b (s .steps)
+      → strip′ ≡ strip → Cleared a b work work′ → NextAnswer a b strip work strip′ work′ NoneLeft

@@ -7,22 +7,34 @@ mod walking;
 
 ghost use mathlib.Core.Path.{_≡_};
 ghost use Prim.Native.Nat.{_+_, _*_, _≤_};
-ghost use lib.ListN.{length};
+ghost use lib.ListN.{length, take};
 ghost use Rattle.trace.specs.Points.{count};
 ghost use Rattle.trace.specs.Pair.{at, Pair};
 ghost use Rattle.strip.specs.Worth.{worths};
+ghost use Rattle.strip.specs.Bytes.{IsStrip};
 ghost use Rattle.joining.specs.Cells.{room};
 ghost use Rattle.joining.specs.Table.{Filled};
-ghost use Rattle.joining.specs.Answers.{BestAnswer, workBytes};
+ghost use Rattle.joining.specs.Walking.{Marked, Turned};
+ghost use Rattle.joining.specs.Answers.{BestAnswer, NextAnswer, workBytes};
 use crate::copies::differences;
 use crate::copies::wrapped;
 use crate::marks::clear;
 use crate::table::fill;
+use crate::walking::Turning;
+use crate::walking::find_turn;
 use crate::walking::trace_back;
 use fault::Fault;
 use fault::Refusal;
 use strip::Valued;
+use strip::judge_strip;
 use trace::Judgement;
+
+// The next strip's value, "none left", or a refusal.
+pub enum Followed {
+    Next(i64),
+    NoneLeft,
+    Refused(Refusal),
+}
 
 // Every pair's mark for two accepted traces of m and n points, and the greatest value.
 fn mark_all(a: &[i32], b: &[i32], m: usize, n: usize, work: &mut [u8]) -> i64
@@ -72,4 +84,71 @@ fn no_room() -> Valued
         fault: Fault::Room,
         place: 0,
     })
+}
+
+// No marks yet: a cell for each pair of two traces of 250 points.
+fn no_marks() -> [u8; 63001]
+    ensures { λ r. ⌜ 63001 ≡ length r ⌝ }
+{
+    [0u8; 63001]
+}
+
+// The strip that comes next after the one at the front of `strip`, in its place. Takes every input; a refusal touches nothing, so the
+// marks are kept in a local array until BELOW is decided.
+pub fn next(a: &[i32], b: &[i32], strip: &mut [u8], work: &mut [u8]) -> Followed
+    ensures { λ r. ⌜ NextAnswer (now (a .entry)) (now (b .entry)) (now (strip .entry)) (now (work .entry)) (now (strip .exit)) (now (work .exit)) r ⌝ }
+{
+    let judged = trace::judge(a);
+    let Judgement::Fit { area: _, count: m } = judged else {
+        return Followed::Refused(trace::refused(judged, 0));
+    };
+    let judged = trace::judge(b);
+    let Judgement::Fit { area: _, count: n } = judged else {
+        return Followed::Refused(trace::refused(judged, 1));
+    };
+    let steps = m + n;
+    let cells = (m + 1) * (n + 1);
+    if strip.len() < steps {
+        return refusal(Fault::Room);
+    }
+    if work.len() < cells {
+        return refusal(Fault::Room);
+    }
+    let handed_in = judge_strip(a, b, &strip[..steps]);
+    let Valued::Value(value) = handed_in else {
+        return refusal(Fault::Strip);
+    };
+    let mut marks = no_marks();
+    let greatest = mark_all(a, b, m, n, &mut marks);
+    if value < greatest {
+        return refusal(Fault::Below);
+    }
+    let turned = turn(&marks, m, n, strip);
+    clear(work, cells);
+    if turned {
+        Followed::Next(greatest)
+    } else {
+        Followed::NoneLeft
+    }
+}
+
+fn refusal(fault: Fault) -> Followed
+    ensures { λ r. ⌜ r ≡ Followed.Refused (at fault 0) ⌝ }
+{
+    Followed::Refused(Refusal { fault, place: 0 })
+}
+
+// Turns the best strip at the front of `strip` into the next one, if there is one.
+fn turn(marks: &[u8], m: usize, n: usize, strip: &mut [u8]) -> bool
+    requires { ⌜ (Marked (now marks) m n) × (m + n ≤ length (now strip)) × IsStrip m n (take (m + n) (now strip)) ⌝ }
+    ensures { λ r. ⌜ ((s : IsStrip m n (take (m + n) (now (strip .entry)))) → Turned (now (marks .entry)) n (s .steps) (now (strip .entry)) (now (strip .exit)) r) ⌝ }
+{
+    match find_turn(marks, m, n, strip) {
+        Turning::Nowhere => false,
+        Turning::Turn { at, i, j } => {
+            strip[at] = 1;
+            trace_back(marks, n, i, j - 1, strip);
+            true
+        }
+    }
 }

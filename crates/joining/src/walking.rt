@@ -2,10 +2,12 @@
 ghost use mathlib.Core.Path.{_≡_};
 ghost use mathlib.Core.List.{_++_};
 ghost use Prim.Native.Nat.{_+_, _≤_, _<_};
-ghost use lib.ListN.{length, drop};
+ghost use lib.ListN.{length, take, drop};
 ghost use Rattle.ways.specs.Keppel.{trace};
-ghost use Rattle.strip.specs.Bytes.{bytes};
-ghost use Rattle.joining.specs.Walking.{saysA, saysB, Leads, BackFrom};
+ghost use Rattle.strip.specs.Bytes.{bytes, IsStrip};
+ghost use Rattle.joining.specs.Cells.{room};
+ghost use Rattle.joining.specs.Table.{cellAt};
+ghost use Rattle.joining.specs.Walking.{saysA, saysB, Leads, BackFrom, TurnOf, Looked, LookReady};
 use crate::marks::mark_at;
 
 // A pair, and the byte of the step that leads on from it.
@@ -53,4 +55,56 @@ pub(crate) fn trace_back(marks: &[u8], n: usize, i: usize, j: usize, strip: &mut
         k -= 1;
         strip[k] = at.byte;
     }
+}
+
+// The pair after a step of a strip, and whether that step can be turned.
+pub(crate) struct Look {
+    pub i: usize,
+    pub j: usize,
+    pub turns: bool,
+}
+
+fn step_on(marks: &[u8], n: usize, byte: u8, i: usize, j: usize) -> Look
+    requires { ⌜ LookReady (now marks) n byte i j ⌝ }
+    ensures { λ r. ⌜ Looked (now (marks .entry)) n byte i j r ⌝ }
+{
+    if byte == 0 {
+        let mark = mark_at(marks, (i + 1) * (n + 1) + j);
+        return Look {
+            i: i + 1,
+            j,
+            turns: mark / 2 == 1,
+        };
+    }
+    Look {
+        i,
+        j: j + 1,
+        turns: false,
+    }
+}
+
+// The earliest step of the strip that can be turned from A to B: what comes behind it is the longest end that the next strip can keep.
+pub(crate) fn find_turn(marks: &[u8], m: usize, n: usize, strip: &[u8]) -> Turning
+    requires { ⌜ (m ≤ 250) × (n ≤ 250) × (room (cellAt n m n + 1) ≤ length (now marks)) × (m + n ≤ length (now strip)) × IsStrip m n (take (m + n) (now strip)) ⌝ }
+    ensures { λ r. ⌜ ((s : IsStrip m n (take (m + n) (now (strip .entry)))) → TurnOf (now (marks .entry)) n (s .steps) r) ⌝ }
+{
+    let steps = m + n;
+    let mut at = Look {
+        i: 0,
+        j: 0,
+        turns: false,
+    };
+    let mut k = 0;
+    while k < steps {
+        at = step_on(marks, n, strip[k], at.i, at.j);
+        if at.turns {
+            return Turning::Turn {
+                at: k,
+                i: at.i,
+                j: at.j,
+            };
+        }
+        k += 1;
+    }
+    Turning::Nowhere
 }
