@@ -10,3 +10,4 @@ pub mod BestLaws
 pub mod TurnLaws
 pub mod NextLaws
 pub mod FollowLaws
+pub mod Exact

@@ -1,0 +1,107 @@
+-- Two outcomes that a contract allows for one input coincide: the answer, the place and every lent byte. Each case of a contract asks
+-- what every other case rules out, so only equal cases are left, and there what is given is unique. Assumes nothing.
+use mathlib.Core.Path.{_≡_, refl, sym, ap, _∙_, subst}
+use mathlib.Core.List.{List, _++_}
+use Prim.Native.Nat.{ℕ}
+use native.Mathlib.Omega.{arith}
+use lib.IntN.{ℤ}
+use lib.ListN.{drop}
+use lib.Signed.{_<ℤ_}
+use Rattle.whole.proofs.Order.{clash}
+use Rattle.fault.specs.declared.Refusal.{Refusal}
+use Rattle.trace.specs.Pair.{Pair, PairRefused}
+use Rattle.trace.proofs.PairLaws.{pair-refused-unique, refused-not-pair}
+use Rattle.ways.specs.Strip.{Step}
+use Rattle.ways.specs.Best.{Best}
+use Rattle.ways.proofs.Unique.{first-unique, next-unique, next-or-none-not-both}
+use Rattle.strip.specs.Worth.{W}
+use Rattle.strip.specs.Bytes.{bytes}
+use Rattle.strip.proofs.BytesLaws.{same-steps}
+use Rattle.strip.specs.declared.Valued.{Valued}
+use Rattle.strip.specs.declared.Valued.the-variants as Valued
+use Rattle.joining.specs.declared.Followed.{Followed}
+use Rattle.joining.specs.declared.Followed.the-variants as Followed
+use Rattle.joining.specs.Answers.{Between, BestOf, NextOf, NoneLeftOf, HandedIn, stripBytes, Given, Cleared, Untouched, BestAnswer, best, NextAnswer, noStrip, below, next, noneLeft}
+use Rattle.joining.specs.Answers as Answers
+
+-- the same answer and the same bytes
+pub record Same {X : Type 0} (r r′ : X) (strip strip′ work work′ : List ℕ) : Type 0 where
+  pub answer : r ≡ r′
+  pub strips : strip ≡ strip′
+  pub works : work ≡ work′
+
+untouched : {X : Type 0} {r r′ : X} {strip work s s′ w w′ : List ℕ} → r ≡ r′ → Untouched strip work s w → Untouched strip work s′ w′ → Same r r′ s s′ w w′
+untouched e u v = record { answer = e; strips = u .stripSame ∙ sym (v .stripSame); works = u .workSame ∙ sym (v .workSame) }
+
+cleared : {a b : List ℤ} {work w w′ : List ℕ} → Cleared a b work w → Cleared a b work w′ → w ≡ w′
+cleared c d = c .zeros ∙ sym (d .zeros)
+
+front : {a b : List ℤ} {s t : List Step} {strip u v : List ℕ} → s ≡ t → Given a b s strip u → Given a b t strip v → u ≡ v
+front {a} {b} {strip = strip} e g h =
+    g .front ∙ ap (λ (x : List Step). bytes x ++ drop (stripBytes a b) strip) e ∙ sym (h .front)
+
+module _ (a b : List ℤ) (strip : List ℕ) where
+  -- two readings of the strip handed in are one
+  same-best : (s t : HandedIn a b strip) → BestOf a b (s .steps) → BestOf a b (t .steps)
+  same-best s t x = subst (BestOf a b) (same-steps s t) x
+
+  -- a strip of less than another's value is not best
+  not-best : (s t : HandedIn a b strip) {u : List Step} → Between a b u → W a b (s .steps) <ℤ W a b u → BestOf a b (t .steps) → ⊥
+  not-best s t {u} i l x = clash l (same-best t s x .greatest u i)
+
+  not-both : (s t : HandedIn a b strip) {u : List Step} → NextOf a b (s .steps) u → NoneLeftOf a b (t .steps) → ⊥
+  not-both s t x y = next-or-none-not-both x (subst (NoneLeftOf a b) (same-steps t s) y)
+
+module _ {a b : List ℤ} {strip work : List ℕ} where
+  pub best-unique : {r r′ : Valued} {s s′ w w′ : List ℕ} → BestAnswer a b strip work s w r → BestAnswer a b strip work s′ w′ r′ → Same r r′ s s′ w w′
+  best-unique (Answers.BestAnswer.pair p₁ u₁) (Answers.BestAnswer.pair p₂ u₂) = untouched (ap Valued.Refused (pair-refused-unique p₁ p₂)) u₁ u₂
+  best-unique (Answers.BestAnswer.pair p₁ u₁) (Answers.BestAnswer.room q₂ n₂ u₂) = absurd (refused-not-pair p₁ q₂)
+  best-unique (Answers.BestAnswer.pair p₁ u₁) (best q₂ e₂ s₂ f₂ g₂ c₂) = absurd (refused-not-pair p₁ q₂)
+  best-unique (Answers.BestAnswer.room q₁ n₁ u₁) (Answers.BestAnswer.pair p₂ u₂) = absurd (refused-not-pair p₂ q₁)
+  best-unique (Answers.BestAnswer.room q₁ n₁ u₁) (Answers.BestAnswer.room q₂ n₂ u₂) = untouched refl u₁ u₂
+  best-unique (Answers.BestAnswer.room q₁ n₁ u₁) (best q₂ e₂ s₂ f₂ g₂ c₂) = absurd (n₁ e₂)
+  best-unique (best q₁ e₁ s₁ f₁ g₁ c₁) (Answers.BestAnswer.pair p₂ u₂) = absurd (refused-not-pair p₂ q₁)
+  best-unique (best q₁ e₁ s₁ f₁ g₁ c₁) (Answers.BestAnswer.room q₂ n₂ u₂) = absurd (n₂ e₁)
+  best-unique (best q₁ e₁ s₁ f₁ g₁ c₁) (best q₂ e₂ s₂ f₂ g₂ c₂) = 
+      let t = first-unique f₁ f₂ in
+      record { answer = ap (λ (x : List Step). Valued.Value (W a b x)) t; strips = front t g₁ g₂; works = cleared c₁ c₂ }
+
+  pub followed-unique : {r r′ : Followed} {s s′ w w′ : List ℕ} → NextAnswer a b strip work s w r → NextAnswer a b strip work s′ w′ r′ → Same r r′ s s′ w w′
+  followed-unique (Answers.NextAnswer.pair p₁ u₁) (Answers.NextAnswer.pair p₂ u₂) = untouched (ap Followed.Refused (pair-refused-unique p₁ p₂)) u₁ u₂
+  followed-unique (Answers.NextAnswer.pair p₁ u₁) (Answers.NextAnswer.room q₂ n₂ u₂) = absurd (refused-not-pair p₁ q₂)
+  followed-unique (Answers.NextAnswer.pair p₁ u₁) (noStrip q₂ e₂ z₂ u₂) = absurd (refused-not-pair p₁ q₂)
+  followed-unique (Answers.NextAnswer.pair p₁ u₁) (below q₂ e₂ s₂ i₂ l₂ u₂) = absurd (refused-not-pair p₁ q₂)
+  followed-unique (Answers.NextAnswer.pair p₁ u₁) (next q₂ e₂ s₂ x₂ t₂ f₂ g₂ c₂) = absurd (refused-not-pair p₁ q₂)
+  followed-unique (Answers.NextAnswer.pair p₁ u₁) (noneLeft q₂ e₂ s₂ x₂ f₂ k₂ c₂) = absurd (refused-not-pair p₁ q₂)
+  followed-unique (Answers.NextAnswer.room q₁ n₁ u₁) (Answers.NextAnswer.pair p₂ u₂) = absurd (refused-not-pair p₂ q₁)
+  followed-unique (Answers.NextAnswer.room q₁ n₁ u₁) (Answers.NextAnswer.room q₂ n₂ u₂) = untouched refl u₁ u₂
+  followed-unique (Answers.NextAnswer.room q₁ n₁ u₁) (noStrip q₂ e₂ z₂ u₂) = absurd (n₁ e₂)
+  followed-unique (Answers.NextAnswer.room q₁ n₁ u₁) (below q₂ e₂ s₂ i₂ l₂ u₂) = absurd (n₁ e₂)
+  followed-unique (Answers.NextAnswer.room q₁ n₁ u₁) (next q₂ e₂ s₂ x₂ t₂ f₂ g₂ c₂) = absurd (n₁ e₂)
+  followed-unique (Answers.NextAnswer.room q₁ n₁ u₁) (noneLeft q₂ e₂ s₂ x₂ f₂ k₂ c₂) = absurd (n₁ e₂)
+  followed-unique (noStrip q₁ e₁ z₁ u₁) (Answers.NextAnswer.pair p₂ u₂) = absurd (refused-not-pair p₂ q₁)
+  followed-unique (noStrip q₁ e₁ z₁ u₁) (Answers.NextAnswer.room q₂ n₂ u₂) = absurd (n₂ e₁)
+  followed-unique (noStrip q₁ e₁ z₁ u₁) (noStrip q₂ e₂ z₂ u₂) = untouched refl u₁ u₂
+  followed-unique (noStrip q₁ e₁ z₁ u₁) (below q₂ e₂ s₂ i₂ l₂ u₂) = absurd (z₁ s₂)
+  followed-unique (noStrip q₁ e₁ z₁ u₁) (next q₂ e₂ s₂ x₂ t₂ f₂ g₂ c₂) = absurd (z₁ s₂)
+  followed-unique (noStrip q₁ e₁ z₁ u₁) (noneLeft q₂ e₂ s₂ x₂ f₂ k₂ c₂) = absurd (z₁ s₂)
+  followed-unique (below q₁ e₁ s₁ i₁ l₁ u₁) (Answers.NextAnswer.pair p₂ u₂) = absurd (refused-not-pair p₂ q₁)
+  followed-unique (below q₁ e₁ s₁ i₁ l₁ u₁) (Answers.NextAnswer.room q₂ n₂ u₂) = absurd (n₂ e₁)
+  followed-unique (below q₁ e₁ s₁ i₁ l₁ u₁) (noStrip q₂ e₂ z₂ u₂) = absurd (z₂ s₁)
+  followed-unique (below q₁ e₁ s₁ i₁ l₁ u₁) (below q₂ e₂ s₂ i₂ l₂ u₂) = untouched refl u₁ u₂
+  followed-unique (below q₁ e₁ s₁ i₁ l₁ u₁) (next q₂ e₂ s₂ x₂ t₂ f₂ g₂ c₂) = absurd (not-best a b strip s₁ s₂ i₁ l₁ x₂)
+  followed-unique (below q₁ e₁ s₁ i₁ l₁ u₁) (noneLeft q₂ e₂ s₂ x₂ f₂ k₂ c₂) = absurd (not-best a b strip s₁ s₂ i₁ l₁ x₂)
+  followed-unique (next q₁ e₁ s₁ x₁ t₁ f₁ g₁ c₁) (Answers.NextAnswer.pair p₂ u₂) = absurd (refused-not-pair p₂ q₁)
+  followed-unique (next q₁ e₁ s₁ x₁ t₁ f₁ g₁ c₁) (Answers.NextAnswer.room q₂ n₂ u₂) = absurd (n₂ e₁)
+  followed-unique (next q₁ e₁ s₁ x₁ t₁ f₁ g₁ c₁) (noStrip q₂ e₂ z₂ u₂) = absurd (z₂ s₁)
+  followed-unique (next q₁ e₁ s₁ x₁ t₁ f₁ g₁ c₁) (below q₂ e₂ s₂ i₂ l₂ u₂) = absurd (not-best a b strip s₂ s₁ i₂ l₂ x₁)
+  followed-unique (next q₁ e₁ s₁ x₁ t₁ f₁ g₁ c₁) (next q₂ e₂ s₂ x₂ t₂ f₂ g₂ c₂) = 
+      let t = next-unique f₁ (subst (λ (v : List Step). NextOf a b v t₂) (same-steps s₂ s₁) f₂) in
+      record { answer = ap (λ (y : List Step). Followed.Next (W a b y)) t; strips = front t g₁ g₂; works = cleared c₁ c₂ }
+  followed-unique (next q₁ e₁ s₁ x₁ t₁ f₁ g₁ c₁) (noneLeft q₂ e₂ s₂ x₂ f₂ k₂ c₂) = absurd (not-both a b strip s₁ s₂ f₁ f₂)
+  followed-unique (noneLeft q₁ e₁ s₁ x₁ f₁ k₁ c₁) (Answers.NextAnswer.pair p₂ u₂) = absurd (refused-not-pair p₂ q₁)
+  followed-unique (noneLeft q₁ e₁ s₁ x₁ f₁ k₁ c₁) (Answers.NextAnswer.room q₂ n₂ u₂) = absurd (n₂ e₁)
+  followed-unique (noneLeft q₁ e₁ s₁ x₁ f₁ k₁ c₁) (noStrip q₂ e₂ z₂ u₂) = absurd (z₂ s₁)
+  followed-unique (noneLeft q₁ e₁ s₁ x₁ f₁ k₁ c₁) (below q₂ e₂ s₂ i₂ l₂ u₂) = absurd (not-best a b strip s₂ s₁ i₂ l₂ x₁)
+  followed-unique (noneLeft q₁ e₁ s₁ x₁ f₁ k₁ c₁) (next q₂ e₂ s₂ x₂ t₂ f₂ g₂ c₂) = absurd (not-both a b strip s₂ s₁ f₂ f₁)
+  followed-unique (noneLeft q₁ e₁ s₁ x₁ f₁ k₁ c₁) (noneLeft q₂ e₂ s₂ x₂ f₂ k₂ c₂) = record { answer = refl; strips = k₁ ∙ sym k₂; works = cleared c₁ c₂ }
