@@ -1,0 +1,79 @@
+-- What each answer of the judging functions rests on, from the facts that led there to the case of 01's table. A trace that is
+-- accepted has no fault, so the first layer whose trace is not fit is the lowest at fault. Assumes nothing.
+use mathlib.Core.Path.{_≡_, refl, sym, ap, ap₂, _∙_, subst}
+use mathlib.Core.Bool.{true, false, _||_}
+use mathlib.Core.List.{List}
+use Prim.Native.Nat.{ℕ, _/_, _≤_, _<_, min}
+use native.Mathlib.Omega.{arith}
+use lib.Dec.{ltb}
+use lib.IntN.{ℤ}
+use lib.ListN.{length}
+use borrow.Author.Tests.{le-ltb, ltb-false}
+use Rattle.whole.proofs.TestLaws.{true≢false, or-false}
+use Rattle.fault.specs.declared.Fault.{Fault}
+use Rattle.fault.specs.declared.Refusal.{Refusal}
+use Rattle.fault.specs.declared.Fault.the-variants.{Layers}
+use Rattle.trace.specs.declared.Judgement.{Judgement}
+use Rattle.trace.specs.declared.Judgement.the-variants as trace-is
+use Rattle.trace.specs.Points.{count, twiceArea}
+use Rattle.trace.specs.Faults.{Accepted}
+use Rattle.trace.specs.Judged.{judged}
+use Rattle.trace.specs.Pair.{at, refusalOf}
+use Rattle.trace.proofs.Exact.{fit-exactly}
+use Rattle.stack.specs.declared.Layer.{Layer}
+use Rattle.stack.specs.declared.Stack.{Stack}
+use Rattle.stack.specs.declared.StackJudgement.the-variants.{Fit, Refused}
+use Rattle.stack.specs.Entries.{entry, traceOf, steps}
+use Rattle.stack.specs.Faults.{LayersRight, Spanned, AcceptedStack, StackJudged, layers, trace, fit}
+use Rattle.stack.specs.Gathered.{Gathers}
+use Rattle.stack.specs.Laid.{laid}
+use Rattle.stack.proofs.Laying.{laid-long}
+use Rattle.stack.proofs.StackLaws.{accepted-steps}
+
+-- ---- traces
+
+unfit-fit : {f : Fault} {area : ℤ} {n : ℕ} → trace-is.Unfit f ≡ trace-is.Fit area n → ⊥
+unfit-fit e = let z : _≡_ {A = ℕ} 0 1 = cc in omega arith
+
+pub accepted-unfaulted : {t : List ℤ} {f : Fault} → Accepted t → judged t ≡ trace-is.Unfit f → ⊥
+accepted-unfaulted {t} a e = unfit-fit (sym e ∙ fit-exactly t (twiceArea t) (count t) .1 (a, refl, refl))
+
+pub fit-accepted : (t : List ℤ) {j : Judgement} {area : ℤ} {n : ℕ} → j ≡ judged t → j ≡ trace-is.Fit area n → Accepted t
+fit-accepted t {area = area} {n = n} e f = fit-exactly t area n .0 (sym e ∙ f) .0
+
+-- the traces below k are fit, and that of k is not
+pub trace-refused : {es : List Layer} {c : List ℤ} {k : ℕ} {j : Judgement} {f : Fault} {r : Refusal}
+    → LayersRight es → Spanned es c → k < length es → ((i : ℕ) → i < k → Accepted (traceOf c (entry es i)))
+    → j ≡ judged (traceOf c (entry es k)) → j ≡ trace-is.Unfit f → r ≡ refusalOf j k → StackJudged es c (Refused r)
+trace-refused {es} {c} {k} l s h below e u q =
+    subst (λ (r : Refusal). StackJudged es c (Refused r)) (ap (λ (j : Judgement). refusalOf j k) (sym u) ∙ sym q)
+    (trace l s (record {
+      below = h;
+      here = record { fault = _; given = sym e ∙ u };
+      none = λ i b t. accepted-unfaulted (below i b) (t .given);
+    }))
+
+-- ---- all in order
+
+-- a sum that is cut off at 9,500 or later is whole
+pub fit-told : {es : List Layer} {c : List ℤ} {n most : ℕ} → 9500 ≤ most → AcceptedStack es c → n ≡ min (steps es) most
+    → StackJudged es c (Fit (length c / 2) n)
+fit-told {es} {c} {n} h a e =
+    let all : steps es ≡ n = omega (arith, accepted-steps a) in
+    subst (λ (n : ℕ). StackJudged es c (Fit (length c / 2) n)) all (fit a)
+
+-- ---- the number of layers
+
+pub layers-refused : {st : Stack} {c : List ℤ} → (ltb (st .layers) 2 || ltb 20 (st .layers)) ≡ true → (es : List Layer) → Gathers st es
+    → StackJudged es c (Refused (at Layers 0))
+layers-refused {st} e es g =
+    layers (λ l. true≢false (sym e
+    ∙ ap₂ _||_ (le-ltb (st .layers) 2 (omega (arith, l .two, g .long))) (le-ltb 20 (st .layers) (omega (arith, l .twenty, g .long)))))
+
+pub layers-right : (st : Stack) → (ltb (st .layers) 2 || ltb 20 (st .layers)) ≡ false → LayersRight (laid st)
+layers-right st e =
+    let both : (ltb (st .layers) 2 ≡ false) × (ltb 20 (st .layers) ≡ false) = or-false _ _ e in
+    record {
+      two = omega (arith, laid-long st, ltb-false (st .layers) 2 (both .0));
+      twenty = omega (arith, laid-long st, ltb-false 20 (st .layers) (both .1));
+    }

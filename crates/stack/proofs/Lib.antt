@@ -1,0 +1,8 @@
+-- Laws of a stack for the crates above, and the theorems on its judgement (Exact).
+pub mod StackLaws
+pub mod Exact
+pub mod Laying
+pub mod Telling
+mod StripLaws
+mod FaultTests
+mod Judging

@@ -1,0 +1,7 @@
+-- A stack of layers over one common coordinate list, and the strips of its bands.
+pub mod Entries
+pub mod Faults
+pub mod Strips
+pub mod Gathered
+pub mod Tells
+pub mod Laid

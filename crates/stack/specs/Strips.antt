@@ -1,0 +1,40 @@
+-- 01: "a stack's strips one after another, fill their slice exactly; any other length is STRIP at place 0"; else the lowest band
+-- whose own part, cut by the counts, is no strip.
+use mathlib.Core.Path.{_≡_}
+use mathlib.Core.List.{List}
+use Prim.Native.Nat.{ℕ, suc, _+_, _≤_, _<_}
+use lib.ListN.{length, take, drop}
+use Rattle.fault.specs.declared.Fault.the-variants.{Strip}
+use Rattle.trace.specs.Pair.{at}
+use Rattle.strip.specs.Bytes.{IsStrip}
+use Rattle.stack.specs.declared.Layer.{Layer}
+use Rattle.stack.specs.declared.StripsJudgement.{StripsJudgement}
+use Rattle.stack.specs.declared.StripsJudgement.the-variants.{Whole, Refused}
+use Rattle.stack.specs.Entries.{entry, steps, bandStart}
+
+-- the part of band k
+unfoldable pub bandPart : List Layer → List ℕ → ℕ → List ℕ
+bandPart es l k = take (entry es k .count + entry es (suc k) .count) (drop (bandStart es k) l)
+
+-- it is a strip of the band's two layers
+abbrev pub BandStrip : List Layer → List ℕ → ℕ → Type 0
+BandStrip es l k = IsStrip (entry es k .count) (entry es (suc k) .count) (bandPart es l k)
+
+pub record BandFault (es : List Layer) (l : List ℕ) (k : ℕ) : Type 0 where
+  pub noStrip : BandStrip es l k → ⊥
+
+-- every band's part is a strip of its two layers
+pub record StripsRight (es : List Layer) (l : List ℕ) : Type 0 where
+  pub long : length l ≡ steps es
+  pub strips : (k : ℕ) → suc k < length es → BandStrip es l k
+
+pub data StripsJudged (es : List Layer) (l : List ℕ) : StripsJudgement → Type 0 where
+  wrong : (length l ≡ steps es → ⊥) → StripsJudged es l (Refused (at Strip 0))
+  band : {k : ℕ} → length l ≡ steps es → suc k < length es → BandFault es l k → ((j : ℕ) → j < k → BandFault es l j → ⊥)
+      → StripsJudged es l (Refused (at Strip k))
+  whole : StripsRight es l → StripsJudged es l Whole
+
+-- what is answered for any number of layers: of over 20 the entries are not all handed in, so nothing but their number counts
+pub data StripsAnswered (es : List Layer) (l : List ℕ) : StripsJudgement → Type 0 where
+  over : 20 < length es → StripsAnswered es l (Refused (at Strip 0))
+  judged : {r : StripsJudgement} → length es ≤ 20 → StripsJudged es l r → StripsAnswered es l r

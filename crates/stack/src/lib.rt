@@ -1,0 +1,342 @@
+// A stack of layers over one coordinate list, and the strips of its bands.
+ghost use mathlib.Core.Path.{_≡_};
+ghost use mathlib.Core.List.{List};
+ghost use Prim.Native.Nat.{ℕ, suc, _+_, _-_, _*_, _/_, _%_, _≤_, _<_, min};
+ghost use lib.ListN.{length};
+ghost use Rattle.whole.specs.Between.{Within};
+ghost use Rattle.trace.specs.Judged.{judged};
+ghost use Rattle.trace.specs.Faults.{Accepted};
+ghost use Rattle.strip.specs.Bytes.{IsStrip};
+ghost use Rattle.stack.specs.declared.Layer.{Layer};
+ghost use Rattle.stack.specs.Entries.{entry, traceOf, stop, start, steps, bandStart};
+ghost use Rattle.stack.specs.Faults.{Breaks, PlaneFault, LayersRight, Spanned, StackJudged};
+ghost use Rattle.stack.specs.Strips.{BandStrip, BandFault, StripsAnswered};
+ghost use Rattle.stack.specs.Gathered.{Gathers};
+ghost use Rattle.stack.specs.Tells.{Tells};
+ghost use Rattle.stack.specs.Laid.{laid, Sought, FirstOf};
+use fault::Fault;
+use fault::Refusal;
+use trace::Judgement;
+
+// One layer: its plane, its first point in the common list, and its number of points.
+pub struct Layer {
+    pub plane: i32,
+    pub first: usize,
+    pub count: usize,
+}
+
+// The entries of a stack, by value: the first 20 of them, and how many were handed in.
+pub struct Stack {
+    pub plane: [i32; 20],
+    pub first: [usize; 20],
+    pub count: [usize; 20],
+    pub layers: usize,
+}
+
+pub enum StackJudgement {
+    // The number of points, and of the steps of all bands.
+    Fit { points: usize, steps: usize },
+    Refused(Refusal),
+}
+
+pub enum StripsJudgement {
+    // Every band's part is a strip.
+    Whole,
+    Refused(Refusal),
+}
+
+// Takes every stack and every list: LAYERS, SHAPE, SPAN, then trace by trace, then PLANES.
+pub fn judge_stack(stack: Stack, coords: &[i32]) -> StackJudgement
+    ensures { λ r. ⌜ ((es : List Layer) → Gathers stack es → StackJudged es (now (coords .entry)) r) ⌝ }
+{
+    if (stack.layers < 2) | (20 < stack.layers) {
+        return StackJudgement::Refused(Refusal {
+            fault: Fault::Layers,
+            place: 0,
+        });
+    }
+    if coords.len() % 2 == 1 {
+        return StackJudgement::Refused(Refusal {
+            fault: Fault::Shape,
+            place: 0,
+        });
+    }
+    let broken = first_break(stack, coords);
+    if broken < stack.layers {
+        return StackJudgement::Refused(Refusal {
+            fault: Fault::Span,
+            place: broken,
+        });
+    }
+    judge_traces(stack, coords)
+}
+
+// Entry `k`. The arrays are read here and nowhere else.
+fn layer_at(stack: Stack, k: usize) -> Layer
+    requires { ⌜ (k < stack .layers) × (stack .layers ≤ 20) ⌝ }
+    ensures { λ r. ⌜ r ≡ entry (laid stack) k ⌝ }
+{
+    let planes = stack.plane;
+    let firsts = stack.first;
+    let counts = stack.count;
+    Layer {
+        plane: planes[k],
+        first: firsts[k],
+        count: counts[k],
+    }
+}
+
+// Whether a layer stops at `end`. Nothing is added, so no count can wrap into a right one.
+fn stops_at(layer: Layer, end: usize) -> bool
+    ensures { λ r. ⌜ Tells (stop layer ≡ end) r ⌝ }
+{
+    if layer.first <= end {
+        layer.count == end - layer.first
+    } else {
+        false
+    }
+}
+
+// Whether entry `k` starts where the one before stops, and the first at point 0.
+fn starts_right(stack: Stack, k: usize) -> bool
+    requires { ⌜ (k < stack .layers) × (stack .layers ≤ 20) ⌝ }
+    ensures { λ r. ⌜ Tells (entry (laid stack) k .first ≡ start (laid stack) k) r ⌝ }
+{
+    let layer = layer_at(stack, k);
+    if k == 0 {
+        layer.first == 0
+    } else {
+        stops_at(layer_at(stack, k - 1), layer.first)
+    }
+}
+
+// Whether entry `k`, if it is the last, stops at the list's end.
+fn ends_right(stack: Stack, points: usize, k: usize) -> bool
+    requires { ⌜ (k < stack .layers) × (stack .layers ≤ 20) ⌝ }
+    ensures { λ r. ⌜ Tells (suc k ≡ stack .layers → stop (entry (laid stack) k) ≡ points) r ⌝ }
+{
+    if k + 1 == stack.layers {
+        stops_at(layer_at(stack, k), points)
+    } else {
+        true
+    }
+}
+
+// Whether entry `k` breaks the stack rule.
+fn breaks(stack: Stack, coords: &[i32], k: usize) -> bool
+    requires { ⌜ (k < stack .layers) × (stack .layers ≤ 20) ⌝ }
+    ensures { λ r. ⌜ Tells (Breaks (laid stack) (now (coords .entry)) k) r ⌝ }
+{
+    !(starts_right(stack, k) & ends_right(stack, coords.len() / 2, k))
+}
+
+// The lowest entry that breaks the stack rule, or the number of layers.
+fn first_break(stack: Stack, coords: &[i32]) -> usize
+    requires { ⌜ stack .layers ≤ 20 ⌝ }
+    ensures { λ r. ⌜ FirstOf (Breaks (laid stack) (now (coords .entry))) (length (laid stack)) r ⌝ }
+{
+    let layers = stack.layers;
+    let mut k = 0;
+    while k < layers {
+        if breaks(stack, coords, k) {
+            return k;
+        }
+        k += 1;
+    }
+    k
+}
+
+// The judgement of the trace of layer `k`, which is lent as a part of the list: in a stack that keeps the rule it lies inside.
+fn judge_layer(stack: Stack, coords: &[i32], k: usize) -> Judgement
+    requires { ⌜ (k < stack .layers) × (stack .layers ≤ 20) × Spanned (laid stack) (now coords) ⌝ }
+    ensures { λ r. ⌜ r ≡ judged (traceOf (now (coords .entry)) (entry (laid stack) k)) ⌝ }
+{
+    let layer = layer_at(stack, k);
+    let from = 2 * layer.first;
+    let to = from + 2 * layer.count;
+    trace::judge(&coords[from..to])
+}
+
+// Trace by trace, from the lowest: so the first refusal is at the lowest place at fault, and ends the call.
+fn judge_traces(stack: Stack, coords: &[i32]) -> StackJudgement
+    requires { ⌜ LayersRight (laid stack) × Spanned (laid stack) (now coords) ⌝ }
+    ensures { λ r. ⌜ StackJudged (laid stack) (now (coords .entry)) r ⌝ }
+{
+    let layers = stack.layers;
+    let mut k = 0;
+    while k < layers {
+        let judged = judge_layer(stack, coords, k);
+        let Judgement::Fit { area: _, count: _ } = judged else {
+            return StackJudgement::Refused(trace::refused(judged, k));
+        };
+        k += 1;
+    }
+    judge_planes(stack, coords)
+}
+
+// From -100,000 to 100,000.
+fn in_range(v: i32) -> bool
+    ensures { λ r. ⌜ Tells (Within 100000 v) r ⌝ }
+{
+    (-100_000 <= v) & (v <= 100_000)
+}
+
+// Whether the plane of layer `k` is outside its range, or not above the one below. Layer 0 has none below.
+fn plane_wrong(stack: Stack, k: usize) -> bool
+    requires { ⌜ (k < stack .layers) × (stack .layers ≤ 20) ⌝ }
+    ensures { λ r. ⌜ Tells (PlaneFault (laid stack) k) r ⌝ }
+{
+    let layer = layer_at(stack, k);
+    if k == 0 {
+        return !in_range(layer.plane);
+    }
+    let below = layer_at(stack, k - 1);
+    !in_range(layer.plane) | (layer.plane <= below.plane)
+}
+
+// The lowest layer whose plane is at fault, or the number of layers.
+fn first_plane_wrong(stack: Stack) -> usize
+    requires { ⌜ stack .layers ≤ 20 ⌝ }
+    ensures { λ r. ⌜ FirstOf (PlaneFault (laid stack)) (length (laid stack)) r ⌝ }
+{
+    let layers = stack.layers;
+    let mut k = 0;
+    while k < layers {
+        if plane_wrong(stack, k) {
+            return k;
+        }
+        k += 1;
+    }
+    k
+}
+
+// What is left to judge once every trace is fit. 19 bands of at most 500 steps have at most 9,500, so that nothing is cut off.
+fn judge_planes(stack: Stack, coords: &[i32]) -> StackJudgement
+    requires { ⌜ LayersRight (laid stack) × Spanned (laid stack) (now coords)
+        × ((k : ℕ) → k < length (laid stack) → Accepted (traceOf (now coords) (entry (laid stack) k))) ⌝ }
+    ensures { λ r. ⌜ StackJudged (laid stack) (now (coords .entry)) r ⌝ }
+{
+    let low = first_plane_wrong(stack);
+    if low < stack.layers {
+        return StackJudgement::Refused(Refusal {
+            fault: Fault::Planes,
+            place: low,
+        });
+    }
+    StackJudgement::Fit {
+        points: coords.len() / 2,
+        steps: steps_up_to(stack, 9_500),
+    }
+}
+
+// A sum, cut off at `most`: so it cannot wrap, whatever is added.
+fn add_up_to(sum: usize, more: usize, most: usize) -> usize
+    requires { ⌜ sum ≤ most ⌝ }
+    ensures { λ r. ⌜ r ≡ min (sum + more) most ⌝ }
+{
+    if more < most - sum { sum + more } else { most }
+}
+
+// The steps of all bands, cut off at `most`.
+fn steps_up_to(stack: Stack, most: usize) -> usize
+    requires { ⌜ stack .layers ≤ 20 ⌝ }
+    ensures { λ r. ⌜ r ≡ min (steps (laid stack)) most ⌝ }
+{
+    let layers = stack.layers;
+    let mut sum = 0;
+    let mut k = 0;
+    while k + 1 < layers {
+        sum = with_band(stack, k, sum, most);
+        k += 1;
+    }
+    sum
+}
+
+// The steps of band `k` added, up to `most`.
+fn with_band(stack: Stack, k: usize, sum: usize, most: usize) -> usize
+    requires { ⌜ (suc k < stack .layers) × (stack .layers ≤ 20) × (sum ≤ most) ⌝ }
+    ensures { λ r. ⌜ r ≡ min (sum + (entry (laid stack) k .count + entry (laid stack) (suc k) .count)) most ⌝ }
+{
+    let lower = layer_at(stack, k);
+    let upper = layer_at(stack, k + 1);
+    add_up_to(add_up_to(sum, lower.count, most), upper.count, most)
+}
+
+// Takes every stack and every slice. A stack of over 20 layers has entries that are not handed in here: STRIP at 0. The steps are
+// added up to one past the slice's length, which is enough to see that they do not fill it.
+pub fn judge_strips(stack: Stack, strips: &[u8]) -> StripsJudgement
+    ensures { λ r. ⌜ ((es : List Layer) → Gathers stack es → StripsAnswered es (now (strips .entry)) r) ⌝ }
+{
+    if 20 < stack.layers {
+        return StripsJudgement::Refused(Refusal {
+            fault: Fault::Strip,
+            place: 0,
+        });
+    }
+    if steps_up_to(stack, strips.len() + 1) != strips.len() {
+        return StripsJudgement::Refused(Refusal {
+            fault: Fault::Strip,
+            place: 0,
+        });
+    }
+    let wrong = first_band_wrong(stack, strips);
+    if wrong + 1 < stack.layers {
+        return StripsJudgement::Refused(Refusal {
+            fault: Fault::Strip,
+            place: wrong,
+        });
+    }
+    StripsJudgement::Whole
+}
+
+// Whether bytes are a strip of `m` steps A and `n` steps B. Each byte is read once.
+pub fn is_strip(part: &[u8], m: usize, n: usize) -> bool
+    ensures { λ r. ⌜ Tells (IsStrip m n (now (part .entry))) r ⌝ }
+{
+    let mut a: usize = 0;
+    let mut b: usize = 0;
+    let mut k = 0;
+    while k < part.len() {
+        if 1 < part[k] {
+            return false;
+        }
+        if part[k] == 0 {
+            a += 1;
+        } else {
+            b += 1;
+        }
+        k += 1;
+    }
+    (a == m) & (b == n)
+}
+
+// Whether the part of band `k`, which begins at `at`, is a strip.
+fn band_right(stack: Stack, strips: &[u8], k: usize, at: usize) -> bool
+    requires { ⌜ (suc k < stack .layers) × (stack .layers ≤ 20) × (at ≡ bandStart (laid stack) k)
+        × (length (now strips) ≡ steps (laid stack)) ⌝ }
+    ensures { λ r. ⌜ Tells (BandStrip (laid stack) (now (strips .entry)) k) r ⌝ }
+{
+    let lower = layer_at(stack, k);
+    let upper = layer_at(stack, k + 1);
+    let to = at + (lower.count + upper.count);
+    is_strip(&strips[at..to], lower.count, upper.count)
+}
+
+// The lowest band whose part is no strip, or the number of bands. All steps fill the slice, so `at` is never cut off.
+fn first_band_wrong(stack: Stack, strips: &[u8]) -> usize
+    requires { ⌜ (stack .layers ≤ 20) × (length (now strips) ≡ steps (laid stack)) ⌝ }
+    ensures { λ r. ⌜ Sought (BandStrip (laid stack) (now (strips .entry))) (BandFault (laid stack) (now (strips .entry)))
+        (length (laid stack) - 1) r ⌝ }
+{
+    let layers = stack.layers;
+    let mut at = 0;
+    let mut k = 0;
+    while k + 1 < layers {
+        if !band_right(stack, strips, k, at) {
+            return k;
+        }
+        at = with_band(stack, k, at, strips.len());
+        k += 1;
+    }
+    k
+}
