@@ -62,7 +62,7 @@ module _ {a b : List ℤ} {strip work : List ℕ} where
   best-unique (Answers.BestAnswer.room q₁ n₁ u₁) (best q₂ e₂ s₂ f₂ g₂ c₂) = absurd (n₁ e₂)
   best-unique (best q₁ e₁ s₁ f₁ g₁ c₁) (Answers.BestAnswer.pair p₂ u₂) = absurd (refused-not-pair p₂ q₁)
   best-unique (best q₁ e₁ s₁ f₁ g₁ c₁) (Answers.BestAnswer.room q₂ n₂ u₂) = absurd (n₂ e₁)
-  best-unique (best q₁ e₁ s₁ f₁ g₁ c₁) (best q₂ e₂ s₂ f₂ g₂ c₂) = 
+  best-unique (best q₁ e₁ s₁ f₁ g₁ c₁) (best q₂ e₂ s₂ f₂ g₂ c₂) =
       let t = first-unique f₁ f₂ in
       record { answer = ap (λ (x : List Step). Valued.Value (W a b x)) t; strips = front t g₁ g₂; works = cleared c₁ c₂ }
 
@@ -95,7 +95,7 @@ module _ {a b : List ℤ} {strip work : List ℕ} where
   followed-unique (next q₁ e₁ s₁ x₁ t₁ f₁ g₁ c₁) (Answers.NextAnswer.room q₂ n₂ u₂) = absurd (n₂ e₁)
   followed-unique (next q₁ e₁ s₁ x₁ t₁ f₁ g₁ c₁) (noStrip q₂ e₂ z₂ u₂) = absurd (z₂ s₁)
   followed-unique (next q₁ e₁ s₁ x₁ t₁ f₁ g₁ c₁) (below q₂ e₂ s₂ i₂ l₂ u₂) = absurd (not-best a b strip s₂ s₁ i₂ l₂ x₁)
-  followed-unique (next q₁ e₁ s₁ x₁ t₁ f₁ g₁ c₁) (next q₂ e₂ s₂ x₂ t₂ f₂ g₂ c₂) = 
+  followed-unique (next q₁ e₁ s₁ x₁ t₁ f₁ g₁ c₁) (next q₂ e₂ s₂ x₂ t₂ f₂ g₂ c₂) =
       let t = next-unique f₁ (subst (λ (v : List Step). NextOf a b v t₂) (same-steps s₂ s₁) f₂) in
       record { answer = ap (λ (y : List Step). Followed.Next (W a b y)) t; strips = front t g₁ g₂; works = cleared c₁ c₂ }
   followed-unique (next q₁ e₁ s₁ x₁ t₁ f₁ g₁ c₁) (noneLeft q₂ e₂ s₂ x₂ f₂ k₂ c₂) = absurd (not-both a b strip s₁ s₂ f₁ f₂)

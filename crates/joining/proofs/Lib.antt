@@ -10,4 +10,5 @@ pub mod BestLaws
 pub mod TurnLaws
 pub mod NextLaws
 pub mod FollowLaws
+pub mod LineLaws
 pub mod Exact

@@ -4,3 +4,4 @@ pub mod Table
 pub mod Copies
 pub mod Walking
 pub mod Answers
+pub mod Listing

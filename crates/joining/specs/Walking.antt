@@ -67,3 +67,12 @@ pub data Turned (l : List ℕ) (n : ℕ) (t : List Step) (strip strip′ : List 
       → Turned l n t strip strip′ true
   left : ((x z : List Step) → t ≡ x ++ A ∷ z → saysB l n (suc (stepsA x)) (stepsB x) ≡ false) → strip′ ≡ strip
       → Turned l n t strip strip′ false
+
+-- the strip t at the front of a part, and behind it the strip turned at its earliest place; or nothing changed where there is none
+pub data Added (l : List ℕ) (n : ℕ) (t : List Step) (part part′ : List ℕ) : Bool → Type 0 where
+  added : (x z : List Step) → t ≡ x ++ A ∷ z → saysB l n (suc (stepsA x)) (stepsB x) ≡ true
+      → ((x′ z′ : List Step) → t ≡ x′ ++ A ∷ z′ → length x′ < length x → saysB l n (suc (stepsA x′)) (stepsB x′) ≡ false)
+      → part′ ≡ bytes t ++ (bytes (trace (saysA l n) (length x) (suc (stepsA x)) (pred (stepsB x)) ++ B ∷ z) ++ drop (length t + length t) part)
+      → Added l n t part part′ true
+  stopped : ((x z : List Step) → t ≡ x ++ A ∷ z → saysB l n (suc (stepsA x)) (stepsB x) ≡ false) → part′ ≡ part
+      → Added l n t part part′ false

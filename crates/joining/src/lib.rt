@@ -1,6 +1,7 @@
 // The best strips between two traces: the first, the next, and a run of them.
 mod choice;
 mod copies;
+mod lines;
 mod marks;
 mod table;
 mod walking;
@@ -23,6 +24,7 @@ use crate::table::fill;
 use crate::walking::Turning;
 use crate::walking::find_turn;
 use crate::walking::trace_back;
+use crate::walking::turn_here;
 use fault::Fault;
 use fault::Refusal;
 use strip::Valued;
@@ -33,6 +35,16 @@ use trace::Judgement;
 pub enum Followed {
     Next(i64),
     NoneLeft,
+    Refused(Refusal),
+}
+
+// The greatest value, how many strips were written and whether some remain; or a refusal.
+pub enum Run {
+    Lines {
+        value: i64,
+        count: usize,
+        more: bool,
+    },
     Refused(Refusal),
 }
 
@@ -146,8 +158,7 @@ fn turn(marks: &[u8], m: usize, n: usize, strip: &mut [u8]) -> bool
     match find_turn(marks, m, n, strip) {
         Turning::Nowhere => false,
         Turning::Turn { at, i, j } => {
-            strip[at] = 1;
-            trace_back(marks, n, i, j - 1, strip);
+            turn_here(marks, n, strip, at, i, j);
             true
         }
     }

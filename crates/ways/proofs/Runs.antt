@@ -4,12 +4,13 @@
 -- The idea: search the steps of the strip for the earliest step A into a pair that B reaches as well, and turn there
 -- (`Traced`). Each turn raises the place in the order, which stays below 2 ^ (m+n); so that many turns are enough.
 -- Assumes nothing.
-use mathlib.Core.Path.{_≡_, refl}
+use mathlib.Core.Path.{_≡_, refl, sym, subst}
 use mathlib.Core.Bool.{Bool, true, false}
 use mathlib.Core.Logic.{_⊎_, inl, inr}
-use mathlib.Core.List.{List, [], _∷_, _++_}
+use mathlib.Core.List.{List, [], _∷_, _++_, append-assoc}
 use Prim.Native.Nat.{ℕ, zero, suc, _+_, _^_, _≤_, _<_}
 use native.Mathlib.Omega.{arith}
+use lib.IntN.{ℤ}
 use lib.ListN.{length, length-append}
 use Rattle.ways.specs.Strip.{Step, A, B, stepsA, stepsB, Strip}
 use Rattle.ways.specs.Value.{Worths, value}
@@ -87,3 +88,26 @@ list-exists w m n =
     let f = traced-first w m n in
     let r = run w (2 ^ (m + n)) (omega arith) (f .best) in
     (r .0, record { start = traced w m n; first = f; onward = r .1 })
+
+-- ---- a run that has not come to its end
+
+-- from s, handing each strip back for the next, up to t: the strips of l
+pub data Chain (In : List Step → Type 0) (W : List Step → ℤ) : List Step → List (List Step) → List Step → Type 0 where
+  one : (s : List Step) → Chain In W s (s ∷ []) s
+  more : {s t u : List Step} {l : List (List Step)} → Chain In W s l t → NextBest In W t u → Chain In W s (l ++ u ∷ []) u
+
+-- and from its last strip on
+pub chain-onward : {In : List Step → Type 0} {W : List Step → ℤ} {s t : List Step} {l : List (List Step)} → Chain In W s l t
+    → (rest : List (List Step)) → Onward In W t (t ∷ rest) → Onward In W s (l ++ rest)
+chain-onward (one s) rest o = o
+chain-onward {In} {W} {s} (more {t = t} {u = u} {l = l} c n) rest o =
+    subst (λ (k : List (List Step)). Onward In W s k) (sym (append-assoc l (u ∷ []) rest)) (chain-onward c (u ∷ rest) (on n o))
+
+pub onward-head : {In : List Step → Type 0} {W : List Step → ℤ} {s : List Step} {l : List (List Step)} → Onward In W s l
+    → (rest : List (List Step)) × (l ≡ s ∷ rest)
+onward-head (end n) = ([], refl)
+onward-head (on {l = l} n o) = (l, refl)
+
+pub onward-exists : (w : Worths) {m n : ℕ} {s : List Step} → Best (Strip m n) (value w) s
+    → (l : List (List Step)) × Onward (Strip m n) (value w) s l
+onward-exists w {m} {n} b = run w (2 ^ (m + n)) (omega arith) b

@@ -5,3 +5,4 @@ pub mod TestLaws
 pub mod Bounds
 pub mod Machine
 pub mod Halves
+pub mod Parts

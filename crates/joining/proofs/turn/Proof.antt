@@ -1,8 +1,8 @@
 -- `joining::turn` meets its contract: the step is turned to B, and what comes before it is traced anew. Assumes nothing.
-use mathlib.Core.Path.{refl, _∙_}
+use mathlib.Core.Path.{refl}
 use Prim.Native.Nat.{_+_}
 use native.Mathlib.Omega.{arith}
-use lib.ListN.{take, length-set}
+use lib.ListN.{take}
 use Rattle.strip.specs.Bytes.{IsStrip}
 use Rattle.joining.specs.Walking.{left}
 use Rattle.joining.proofs.BackLaws.{leads-back}
@@ -29,17 +29,13 @@ inside : (c : tie.After-at)
     → TurnInside (c .before .before .before .before .before .before .args .m) (c .before .before .before .before .before .before .args .n) (c .at .given .0 .0) (c .at .given .0 .1 .0) (c .at .given .0 .1 .1 .0)
 inside c = let pre = c .before .before .before .before .before .before .pre in turn-inside (pre .0) (pre .2 .strip) (there c (pre .2))
 
-slice-write-strip : tie.Need-slice-write-strip
-slice-write-strip c = omega (arith, inside (c .before) .below, c .before .before .before .before .before .before .before .pre .1)
-
-sub-trace-back : tie.Need-sub-trace-back
-sub-trace-back c = inside (c .before) .some-b
-
-trace-back-requires : tie.Need-trace-back-requires
-trace-back-requires c κs =
+turn-here-requires : tie.Need-turn-here-requires
+turn-here-requires c κs =
     let d = inside (c .before .before) in (
+      d .some-b,
       leads-back (c .before .before .before .before .before .before .before .before .pre .0 .leads) (d .inA) (omega (arith, d .inB)),
-      omega (arith, d .steps, d .below, c .before .before .before .before .before .before .before .before .pre .1, length-set (c .before .before .before .before .before .before .before .before .args .strip .now) (c .before .before .at .given .0 .0) 1),
+      omega (arith, d .below, c .before .before .before .before .before .before .before .before .pre .1),
+      omega (arith, d .steps, d .below, c .before .before .before .before .before .before .before .before .pre .1),
     )
 
 same-length : tie.Need-same-length
@@ -49,11 +45,10 @@ returns : tie.Need-returns
 returns c = λ s. left (is-nowhere (c .before .before .find-turn .ensures s) (c .enum-told .given .1)) refl
 
 same-length-2 : tie.Need-same-length-2
-same-length-2 c =
-    c .before .before .trace-back .kept .1 .1 .1 .1 .0 ∙ length-set (c .before .before .before .before .before .before .before .before .before .before .before .args .strip .now) (c .before .before .before .before .before .at .given .0 .0) 1
+same-length-2 c = search needs
 
 returns-2 : tie.Need-returns-2
-returns-2 c = λ s. turned-is s (there (c .before .before .before .before .before) s) (inside (c .before .before .before .before .before)) (c .before .before .trace-back .ensures)
+returns-2 c = λ s. turned-is s (there (c .before .before .before .before .before) s) (inside (c .before .before .before .before .before)) (c .before .before .turn-here .ensures)
 
 pub turn-spec : {M : Type 1} → statement M
 turn-spec =
@@ -62,9 +57,7 @@ turn-spec =
     find-turn-requires
     enum-told
     enum-known-at
-    slice-write-strip
-    sub-trace-back
-    trace-back-requires
+    turn-here-requires
     same-length
     returns
     same-length-2

@@ -1,0 +1,41 @@
+// A run of best strips, one after the other in a lent slice.
+ghost use mathlib.Core.Path.{_≡_};
+ghost use mathlib.Core.Bool.{Bool};
+ghost use mathlib.Core.List.{_++_};
+ghost use Prim.Native.Nat.{_+_, _*_, _≤_, _<_};
+ghost use lib.ListN.{length, take, drop};
+ghost use Rattle.strip.specs.Bytes.{IsStrip};
+ghost use Rattle.joining.specs.Walking.{Marked, Added};
+use crate::walking::Turning;
+use crate::walking::find_turn;
+use crate::walking::trace_back;
+use crate::walking::turn_here;
+
+// The first `steps` bytes once more behind themselves.
+fn double(part: &mut [u8], steps: usize)
+    requires { ⌜ steps + steps ≤ length (now part) ⌝ }
+    ensures { λ _. ⌜ now (part .exit) ≡ take steps (now (part .entry)) ++ take steps (now (part .entry)) ++ drop (steps + steps) (now (part .entry)) ⌝ }
+{
+    let mut k = 0;
+    while k < steps {
+        let byte = part[k];
+        part[steps + k] = byte;
+        k += 1;
+    }
+}
+
+// Behind the best strip at the front of `part`, the next one, if there is one.
+fn add_line(marks: &[u8], m: usize, n: usize, part: &mut [u8]) -> bool
+    requires { ⌜ (Marked (now marks) m n) × (m + n + (m + n) ≤ length (now part)) × IsStrip m n (take (m + n) (now part)) ⌝ }
+    ensures { λ r. ⌜ ((s : IsStrip m n (take (m + n) (now (part .entry)))) → Added (now (marks .entry)) n (s .steps) (now (part .entry)) (now (part .exit)) r) ⌝ }
+{
+    let steps = m + n;
+    match find_turn(marks, m, n, part) {
+        Turning::Nowhere => false,
+        Turning::Turn { at, i, j } => {
+            double(part, steps);
+            turn_here(marks, n, &mut part[steps..], at, i, j);
+            true
+        }
+    }
+}
