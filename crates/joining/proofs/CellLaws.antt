@@ -23,3 +23,6 @@ room-all n l l′ e = ap (λ (r : List ℕ). replicate n 0 ++ r) e
 pub room-needs : {n l : ℕ} → n ≤ l → room n ≤ l
 unfolding room
 room-needs h = h
+
+pub room-same : (n : ℕ) {a b : ℕ} → a ≡ b → room n ≤ a → room n ≤ b
+room-same n e h = omega arith

@@ -11,4 +11,5 @@ pub mod TurnLaws
 pub mod NextLaws
 pub mod FollowLaws
 pub mod LineLaws
+pub mod RunLaws
 pub mod Exact

@@ -5,3 +5,4 @@ pub mod Copies
 pub mod Walking
 pub mod Answers
 pub mod Listing
+pub mod Lines

@@ -76,3 +76,10 @@ pub data Added (l : List ℕ) (n : ℕ) (t : List Step) (part part′ : List ℕ
       → Added l n t part part′ true
   stopped : ((x z : List Step) → t ≡ x ++ A ∷ z → saysB l n (suc (stepsA x)) (stepsB x) ≡ false) → part′ ≡ part
       → Added l n t part part′ false
+
+-- whether the strip t can be turned anywhere
+pub data CanTurn (l : List ℕ) (n : ℕ) (t : List Step) : Bool → Type 0 where
+  can : (x z : List Step) → t ≡ x ++ A ∷ z → saysB l n (suc (stepsA x)) (stepsB x) ≡ true
+      → ((x′ z′ : List Step) → t ≡ x′ ++ A ∷ z′ → length x′ < length x → saysB l n (suc (stepsA x′)) (stepsB x′) ≡ false)
+      → CanTurn l n t true
+  cannot : ((x z : List Step) → t ≡ x ++ A ∷ z → saysB l n (suc (stepsA x)) (stepsB x) ≡ false) → CanTurn l n t false
