@@ -12,4 +12,5 @@ pub mod NextLaws
 pub mod FollowLaws
 pub mod LineLaws
 pub mod RunLaws
+pub mod ListLaws
 pub mod Exact

@@ -5,7 +5,7 @@ use mathlib.Core.Bool.{Bool, true, false}
 use mathlib.Core.List.{List, [], _∷_, _++_, append-assoc, append-nil}
 use Prim.Native.Nat.{ℕ, zero, suc, pred, _+_, _*_, _≤_, _<_}
 use native.Mathlib.Omega.{arith}
-use native.Mathlib.Nat.{mul-le-mul-right}
+use native.Mathlib.Nat.{mul-le-mul-right, zero-mul}
 use lib.IntN.{ℤ}
 use lib.ListN.{length, take, drop, length-append, length-drop}
 use lib.Seq.{take-at, drop-at, drop-drop, drop-append-add}
@@ -15,7 +15,7 @@ use Rattle.ways.specs.Keppel.{trace, traced}
 use Rattle.ways.specs.Best.{Best, NextBest, NoneLeft, Onward, end, on, Listed}
 use Rattle.ways.proofs.Greatest.{strip-length}
 use Rattle.ways.proofs.Traced.{traced-first}
-use Rattle.ways.proofs.Runs.{Chain, one, more, chain-onward, onward-head, onward-exists}
+use Rattle.ways.proofs.Runs.{Chain, one, more, chain-onward, onward-head, onward-exists, list-exists}
 use Rattle.strip.specs.Bytes.{bytes, IsStrip}
 use Rattle.strip.proofs.BytesLaws.{bytes-length}
 use Rattle.joining.specs.declared.lines.Counted.{Counted}
@@ -218,3 +218,16 @@ added-as {l} {n} {t} {part} {part′} e x = subst (Added l n t part part′) e x
 
 pub stopped-same : {l : List ℕ} {n : ℕ} {t : List Step} {part part′ : List ℕ} → Added l n t part part′ false → part′ ≡ part
 stopped-same (stopped none q) = q
+
+-- nothing is written for no limit, and there is a best strip that remains
+pub nothing-written : (w : Worths) (m n limit : ℕ) (lines : List ℕ) → limit ≡ 0 → WroteLines w m n limit lines lines (record { count = 0; more = true })
+unfolding lined
+nothing-written w m n limit lines e =
+    let l = list-exists w m n in
+    let h = onward-head (l .1 .onward) in
+    record {
+      strips = [];
+      counted = refl;
+      beginning = some (l .1 .start) (h .0) (subst (Listed (Strip m n) (value w)) (h .1) (l .1)) (sym e);
+      front = ap (λ (k : ℕ). drop k lines) (sym (zero-mul (m + n)));
+    }

@@ -15,10 +15,12 @@ ghost use Rattle.strip.specs.Worth.{worths};
 ghost use Rattle.strip.specs.Bytes.{IsStrip};
 ghost use Rattle.joining.specs.Cells.{room};
 ghost use Rattle.joining.specs.Table.{Filled};
+ghost use Rattle.joining.specs.Listing.{ListAnswer};
 ghost use Rattle.joining.specs.Walking.{Marked, Turned};
 ghost use Rattle.joining.specs.Answers.{BestAnswer, NextAnswer, workBytes};
 use crate::copies::differences;
 use crate::copies::wrapped;
+use crate::lines::some_lines;
 use crate::marks::clear;
 use crate::table::fill;
 use crate::walking::Turning;
@@ -162,4 +164,43 @@ fn turn(marks: &[u8], m: usize, n: usize, strip: &mut [u8]) -> bool
             true
         }
     }
+}
+
+// The first `limit` best strips, one after the other at the front of `lines`. The marks are filled once; a further strip costs a walk
+// along its steps. There must be room for `limit` strips, however many there are.
+pub fn list_best(a: &[i32], b: &[i32], lines: &mut [u8], work: &mut [u8], limit: usize) -> Run
+    ensures { λ r. ⌜ ListAnswer (now (a .entry)) (now (b .entry)) limit (now (lines .entry)) (now (work .entry)) (now (lines .exit)) (now (work .exit)) r ⌝ }
+{
+    let judged = trace::judge(a);
+    let Judgement::Fit { area: _, count: m } = judged else {
+        return Run::Refused(trace::refused(judged, 0));
+    };
+    let judged = trace::judge(b);
+    let Judgement::Fit { area: _, count: n } = judged else {
+        return Run::Refused(trace::refused(judged, 1));
+    };
+    let cells = (m + 1) * (n + 1);
+    if lines.len() / (m + n) < limit {
+        return no_lines();
+    }
+    if work.len() < cells {
+        return no_lines();
+    }
+    let value = mark_all(a, b, m, n, work);
+    let written = some_lines(work, m, n, lines, limit);
+    clear(work, cells);
+    Run::Lines {
+        value,
+        count: written.count,
+        more: written.more,
+    }
+}
+
+fn no_lines() -> Run
+    ensures { λ r. ⌜ r ≡ Run.Refused (at Fault.Room 0) ⌝ }
+{
+    Run::Refused(Refusal {
+        fault: Fault::Room,
+        place: 0,
+    })
 }

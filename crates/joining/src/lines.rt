@@ -85,3 +85,23 @@ pub(crate) fn write_lines(
         more: can_turn(marks, m, n, &lines[last..]),
     }
 }
+
+// The same for any limit: nothing is written for none, and then some remain, since there is a best strip.
+pub(crate) fn some_lines(
+    marks: &[u8],
+    m: usize,
+    n: usize,
+    lines: &mut [u8],
+    limit: usize,
+) -> Counted
+    requires { ⌜ IsFilled (now marks) m n × (1 ≤ m) × (m ≤ 250) × (n ≤ 250) × (room ((m + 1) * (n + 1)) ≤ length (now marks)) × (limit * (m + n) ≤ length (now lines)) ⌝ }
+    ensures { λ r. ⌜ ((f : IsFilled (now (marks .entry)) m n) → WroteLines (f .w) m n limit (now (lines .entry)) (now (lines .exit)) r) ⌝ }
+{
+    if limit == 0 {
+        return Counted {
+            count: 0,
+            more: true,
+        };
+    }
+    write_lines(marks, m, n, lines, limit)
+}
