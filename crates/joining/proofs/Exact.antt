@@ -1,11 +1,13 @@
 -- Two outcomes that a contract allows for one input coincide: the answer, the place and every lent byte. Each case of a contract asks
 -- what every other case rules out, so only equal cases are left, and there what is given is unique. Assumes nothing.
 use mathlib.Core.Path.{_≡_, refl, sym, ap, _∙_, subst}
-use mathlib.Core.List.{List, _++_}
-use Prim.Native.Nat.{ℕ}
+use mathlib.Core.List.{List, _∷_, _++_}
+use mathlib.Core.Bool.{Bool}
+use Prim.Native.Nat.{ℕ, _*_, _≤_}
 use native.Mathlib.Omega.{arith}
 use lib.IntN.{ℤ}
-use lib.ListN.{drop}
+use lib.ListN.{length, take, drop, length-append}
+use lib.Seq.{take-at}
 use lib.Signed.{_<ℤ_}
 use Rattle.whole.proofs.Order.{clash}
 use Rattle.fault.specs.declared.Refusal.{Refusal}
@@ -13,7 +15,7 @@ use Rattle.trace.specs.Pair.{Pair, PairRefused}
 use Rattle.trace.proofs.PairLaws.{pair-refused-unique, refused-not-pair}
 use Rattle.ways.specs.Strip.{Step}
 use Rattle.ways.specs.Best.{Best}
-use Rattle.ways.proofs.Unique.{first-unique, next-unique, next-or-none-not-both}
+use Rattle.ways.proofs.Unique.{first-unique, next-unique, next-or-none-not-both, best-same, listed-unique}
 use Rattle.strip.specs.Worth.{W}
 use Rattle.strip.specs.Bytes.{bytes}
 use Rattle.strip.proofs.BytesLaws.{same-steps}
@@ -23,6 +25,10 @@ use Rattle.joining.specs.declared.Followed.{Followed}
 use Rattle.joining.specs.declared.Followed.the-variants as Followed
 use Rattle.joining.specs.Answers.{Between, BestOf, NextOf, NoneLeftOf, HandedIn, stripBytes, Given, Cleared, Untouched, BestAnswer, best, NextAnswer, noStrip, below, next, noneLeft}
 use Rattle.joining.specs.Answers as Answers
+use Rattle.joining.specs.declared.Run.{Run}
+use Rattle.joining.specs.declared.Run.the-variants as Run
+use Rattle.joining.specs.Listing.{Beginning, all, some, lined, ListAnswer, listed}
+use Rattle.joining.specs.Listing as Listing
 
 -- the same answer and the same bytes
 pub record Same {X : Type 0} (r r′ : X) (strip strip′ work work′ : List ℕ) : Type 0 where
@@ -105,3 +111,50 @@ module _ {a b : List ℤ} {strip work : List ℕ} where
   followed-unique (noneLeft q₁ e₁ s₁ x₁ f₁ k₁ c₁) (below q₂ e₂ s₂ i₂ l₂ u₂) = absurd (not-best a b strip s₂ s₁ i₂ l₂ x₁)
   followed-unique (noneLeft q₁ e₁ s₁ x₁ f₁ k₁ c₁) (next q₂ e₂ s₂ x₂ t₂ f₂ g₂ c₂) = absurd (not-both a b strip s₂ s₁ f₂ f₁)
   followed-unique (noneLeft q₁ e₁ s₁ x₁ f₁ k₁ c₁) (noneLeft q₂ e₂ s₂ x₂ f₂ k₂ c₂) = record { answer = refl; strips = k₁ ∙ sym k₂; works = cleared c₁ c₂ }
+
+-- ---- a run of strips
+
+-- two beginnings that a limit allows are one, and say alike whether some remain
+record SameBeginning (k l : List (List Step)) (more more′ : Bool) : Type 0 where
+  strips : k ≡ l
+  remain : more ≡ more′
+
+too-long : (k l : List (List Step)) (s : List Step) (rest : List (List Step)) (limit : ℕ) → k ≡ l ++ s ∷ rest → length k ≤ limit
+    → length l ≡ limit → ⊥
+too-long k l s rest limit e h j = omega (arith, ap length e, length-append l (s ∷ rest))
+
+fronts : (k l x y : List (List Step)) → length k ≡ length l → k ++ x ≡ l ++ y → k ≡ l
+fronts k l x y h e =
+    sym (take-at k x (length k) refl) ∙ ap (take (length k)) e ∙ take-at l y (length k) (sym h)
+
+same-beginning : (a b : List ℤ) {limit : ℕ} {k l : List (List Step)} {more more′ : Bool} → Beginning a b limit k more → Beginning a b limit l more′
+    → SameBeginning k l more more′
+same-beginning a b (all x h) (all y j) = record { strips = listed-unique x y; remain = refl }
+same-beginning a b {limit} {k} {l} (all x h) (some s rest y j) = absurd (too-long k l s rest limit (listed-unique x y) h j)
+same-beginning a b {limit} {k} {l} (some s rest x h) (all y j) = absurd (too-long l k s rest limit (listed-unique y x) j h)
+same-beginning a b {limit} {k} {l} (some s rest x h) (some t rest′ y j) = record {
+  strips = fronts k l (s ∷ rest) (t ∷ rest′) (h ∙ sym j) (listed-unique x y);
+  remain = refl;
+}
+
+module _ {a b : List ℤ} {limit : ℕ} {lines work : List ℕ} where
+  pub list-unique : {r r′ : Run} {s s′ w w′ : List ℕ} → ListAnswer a b limit lines work s w r → ListAnswer a b limit lines work s′ w′ r′
+      → Same r r′ s s′ w w′
+  list-unique (Listing.ListAnswer.pair p₁ u₁) (Listing.ListAnswer.pair p₂ u₂) = untouched (ap Run.Refused (pair-refused-unique p₁ p₂)) u₁ u₂
+  list-unique (Listing.ListAnswer.pair p₁ u₁) (Listing.ListAnswer.room q₂ n₂ u₂) = absurd (refused-not-pair p₁ q₂)
+  list-unique (Listing.ListAnswer.pair p₁ u₁) (listed q₂ e₂ l₂ b₂ f₂ c₂ s₂ g₂) = absurd (refused-not-pair p₁ q₂)
+  list-unique (Listing.ListAnswer.room q₁ n₁ u₁) (Listing.ListAnswer.pair p₂ u₂) = absurd (refused-not-pair p₂ q₁)
+  list-unique (Listing.ListAnswer.room q₁ n₁ u₁) (Listing.ListAnswer.room q₂ n₂ u₂) = untouched refl u₁ u₂
+  list-unique (Listing.ListAnswer.room q₁ n₁ u₁) (listed q₂ e₂ l₂ b₂ f₂ c₂ s₂ g₂) = absurd (n₁ e₂)
+  list-unique (listed q₁ e₁ l₁ b₁ f₁ c₁ s₁ g₁) (Listing.ListAnswer.pair p₂ u₂) = absurd (refused-not-pair p₂ q₁)
+  list-unique (listed q₁ e₁ l₁ b₁ f₁ c₁ s₁ g₁) (Listing.ListAnswer.room q₂ n₂ u₂) = absurd (n₂ e₁)
+  list-unique (listed q₁ e₁ l₁ b₁ f₁ c₁ s₁ g₁) (listed q₂ e₂ l₂ b₂ f₂ c₂ s₂ g₂) =
+      let same = same-beginning a b b₁ b₂ in
+      record {
+        answer = lines-same (best-same g₁ g₂) (ap length (same .strips)) (same .remain);
+        strips = f₁ ∙ ap (λ (l : List (List Step)). lined l ++ drop (length l * stripBytes a b) lines) (same .strips) ∙ sym f₂;
+        works = cleared c₁ c₂;
+      }
+    where
+      lines-same : {v v′ : ℤ} {k k′ : ℕ} {more more′ : Bool} → v ≡ v′ → k ≡ k′ → more ≡ more′ → Run.Lines v k more ≡ Run.Lines v′ k′ more′
+      lines-same e f g = cc

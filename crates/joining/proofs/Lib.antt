@@ -13,4 +13,5 @@ pub mod FollowLaws
 pub mod LineLaws
 pub mod RunLaws
 pub mod ListLaws
+pub mod Demand
 pub mod Exact

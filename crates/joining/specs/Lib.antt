@@ -6,3 +6,4 @@ pub mod Walking
 pub mod Answers
 pub mod Listing
 pub mod Lines
+pub mod Calls

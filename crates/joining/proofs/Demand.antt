@@ -1,0 +1,136 @@
+-- Demand 3 over the public contracts: calls that begin with `best` and go on with `next` until none is left give exactly the strips of
+-- greatest value, each once, in the stated order; such calls end, and none of them is refused while there is room. Each call's contract
+-- says what `ways` means by first, next and none left, so the calls are a chain of `ways` and the theorems there say the rest.
+-- Assumes nothing.
+use mathlib.Core.Path.{_≡_, refl, sym, ap, ap₂, _∙_, subst}
+use mathlib.Core.Logic.{_⊎_, inl, inr}
+use mathlib.Core.List.{List, [], _∷_, _++_, map, map-append, append-nil, List·Memᴰ}
+use Prim.Native.Nat.{ℕ, _+_, _^_, _≤_}
+use native.Mathlib.Omega.{arith}
+use lib.IntN.{ℤ}
+use lib.ListN.{length, take, drop, length-map, length-append}
+use lib.Seq.{take-at}
+use Rattle.whole.proofs.Order.{clash}
+use Rattle.trace.proofs.PairLaws.{refused-not-pair}
+use Rattle.trace.specs.Pair.{Pair}
+use Rattle.ways.specs.Strip.{Step}
+use Rattle.ways.specs.Best.{Best, Onward, end, Listed}
+use Rattle.ways.proofs.Greatest.{strip-length}
+use Rattle.ways.proofs.Complete.{Rising, listed-all, listed-best, listed-order, listed-once, listed-ends}
+use Rattle.ways.proofs.Runs.{Chain, one, more, chain-onward, onward-head, onward-exists}
+use Rattle.strip.specs.Worth.{W, worths}
+use Rattle.strip.specs.Bytes.{bytes}
+use Rattle.strip.proofs.BytesLaws.{bytes-injective, bytes-length}
+use Rattle.strip.specs.declared.Valued.the-variants.{Value}
+use Rattle.joining.specs.declared.Followed.{Followed}
+use Rattle.joining.specs.declared.Followed.the-variants.{Next, NoneLeft}
+use Rattle.joining.specs.Answers.{Between, BestOf, FirstOf, NextOf, NoneLeftOf, HandedIn, stripBytes, Enough, Given, BestAnswer, best, NextAnswer, noStrip, below, next, noneLeft}
+use Rattle.joining.specs.Answers as Answers
+use Rattle.joining.specs.Calls.{shown, Going, begun, went, Ended, ended}
+
+-- ---- the calls are a chain
+
+record Chained (a b : List ℤ) (l : List (List ℕ)) (last : List ℕ) : Type 0 where
+  pair : Pair a b
+  start : List Step
+  first : FirstOf a b start
+  strips : List (List Step)
+  final : List Step
+  chain : Chain (Between a b) (W a b) start strips final
+  best : BestOf a b final
+  all : l ≡ map bytes strips
+  final-shown : last ≡ bytes final
+
+-- "every strip of greatest value comes up once, in the stated order, and no other does"
+pub record Whole (a b : List ℤ) (l : List (List ℕ)) : Type 0 where
+  pub strips : List (List Step)
+  pub shows : l ≡ map bytes strips
+  pub all : (s : List Step) → BestOf a b s → List·Memᴰ s strips
+  pub only : (s : List Step) → List·Memᴰ s strips → BestOf a b s
+  pub order : Rising strips
+  pub once : (s : List Step) (x y : List (List Step)) → strips ≡ x ++ s ∷ y → List·Memᴰ s (x ++ y) → ⊥
+
+module _ (a b : List ℤ) where
+  shown-given : {s : List Step} {strip strip′ : List ℕ} → Between a b s → Given a b s strip strip′ → shown a b strip′ ≡ bytes s
+  shown-given {s} {strip} i g =
+      ap (take (stripBytes a b)) (g .front)
+      ∙ take-at (bytes s) (drop (stripBytes a b) strip) (stripBytes a b) (bytes-length s ∙ strip-length i)
+
+  -- the strip handed in is the one that was given last
+  handed-back : {s : List Step} (strip : List ℕ) {last : List ℕ} (h : HandedIn a b strip) → shown a b strip ≡ last → last ≡ bytes s → h .steps ≡ s
+  handed-back {s} strip h e f = bytes-injective (h .steps) s (sym (h .written) ∙ e ∙ f)
+
+  chained : {l : List (List ℕ)} {last : List ℕ} → Going a b l last → Chained a b l last
+  chained (begun (best p e s f g c)) = record {
+    pair = p;
+    start = s;
+    first = f;
+    strips = s ∷ [];
+    final = s;
+    chain = one s;
+    best = f .best;
+    all = ap (λ (x : List ℕ). x ∷ []) (shown-given (f .best .is) g);
+    final-shown = shown-given (f .best .is) g;
+  }
+  chained (went {strip = strip} going back (next p e h x t f g c)) =
+      let before = chained going in
+      let n : NextOf a b (before .final) t = subst (λ (s : List Step). NextOf a b s t) (handed-back strip h back (before .final-shown)) f in
+      record {
+        pair = p;
+        start = before .start;
+        first = before .first;
+        strips = before .strips ++ t ∷ [];
+        final = t;
+        chain = more (before .chain) n;
+        best = f .best;
+        all =
+            ap₂ (λ (x : List (List ℕ)) (y : List ℕ). x ++ y ∷ []) (before .all) (shown-given (f .best .is) g)
+            ∙ sym (map-append bytes (before .strips) (t ∷ []));
+        final-shown = shown-given (f .best .is) g;
+      }
+
+  -- from the last strip on to the end, however far that is
+  onward-listed : {l : List (List ℕ)} {last : List ℕ} (c : Chained a b l last) (rest : List (List Step))
+      → Onward (Between a b) (W a b) (c .final) (c .final ∷ rest) → Listed (Between a b) (W a b) (c .strips ++ rest)
+  onward-listed c rest o = record { start = c .start; first = c .first; onward = chain-onward (c .chain) rest o }
+
+  -- ---- the demand
+
+  -- Calls that ended gave the whole list, from the first best strip on until none is left: all, only, in order, once.
+  pub calls-list : {l : List (List ℕ)} → Ended a b l → Whole a b l
+  calls-list (ended {strip = strip} going back (noneLeft p e h x f kept cleared)) =
+      let c = chained going in
+      let none = subst (NoneLeftOf a b) (handed-back strip h back (c .final-shown)) f in
+      let listed = onward-listed c [] (end none) in
+      record {
+        strips = c .strips ++ [];
+        shows = c .all ∙ ap (map bytes) (sym (append-nil (c .strips)));
+        all = λ s b. listed-all listed b;
+        only = λ s m. listed-best listed m;
+        order = listed-order listed;
+        once = λ s x y. listed-once (listed-order listed) x y;
+      }
+
+  -- Calls end: they are at most 2 ^ (m + n).
+  pub calls-end : {l : List (List ℕ)} {last : List ℕ} → Going a b l last → length l ≤ 2 ^ stripBytes a b
+  calls-end going =
+      let c = chained going in
+      let on = onward-exists (worths a b) (c .best) in
+      let head = onward-head (on .1) in
+      let listed = onward-listed c (head .0) (subst (Onward (Between a b) (W a b) (c .final)) (head .1) (on .1)) in
+      let k = listed-ends (λ t. strip-length) listed in
+      omega (arith, ap length (c .all), length-map (c .strips) bytes, length-append (c .strips) (head .0))
+
+  -- None of them is refused while there is room.
+  pub calls-go-on : {l : List (List ℕ)} {last strip work strip′ work′ : List ℕ} {r : Followed} → Going a b l last → shown a b strip ≡ last
+      → Enough a b strip work → NextAnswer a b strip work strip′ work′ r → ((v : ℤ) × (r ≡ Next v)) ⊎ (r ≡ NoneLeft)
+  calls-go-on {strip = strip} going back room (Answers.NextAnswer.pair p u) = absurd (refused-not-pair p (chained going .pair))
+  calls-go-on {strip = strip} going back room (Answers.NextAnswer.room p n u) = absurd (n room)
+  calls-go-on {strip = strip} going back room (noStrip p e z u) =
+      let c = chained going in
+      absurd (z (record { steps = c .final; written = back ∙ c .final-shown; strip = c .best .is }))
+  calls-go-on {strip = strip} going back room (below p e s i l u) =
+      let c = chained going in
+      absurd (clash l (subst (BestOf a b) (sym (handed-back strip s back (c .final-shown))) (c .best) .greatest _ i))
+  calls-go-on {strip = strip} going back room (next p e s x t f g c) = inl (W a b t, refl)
+  calls-go-on {strip = strip} going back room (noneLeft p e s x f k c) = inr refl

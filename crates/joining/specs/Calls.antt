@@ -1,0 +1,26 @@
+-- 01, demand 3, over the calls themselves: "Beginning with the strip given and handing each one back for the next, the traces
+-- unchanged". A caller may lend other memory at each call, as long as the strip handed back is the one that was given.
+use mathlib.Core.Path.{_≡_}
+use mathlib.Core.List.{List, [], _∷_, _++_}
+use Prim.Native.Nat.{ℕ}
+use lib.ListN.{take}
+use lib.IntN.{ℤ}
+use Rattle.strip.specs.declared.Valued.the-variants.{Value}
+use Rattle.joining.specs.declared.Followed.the-variants.{Next, NoneLeft}
+use Rattle.joining.specs.Answers.{BestAnswer, NextAnswer, stripBytes}
+
+-- what stands at the front of a strip slice
+abbrev pub shown : List ℤ → List ℤ → List ℕ → List ℕ
+shown a b strip = take (stripBytes a b) strip
+
+-- calls that were made: what they gave so far, and what the last one gave
+pub data Going (a b : List ℤ) : List (List ℕ) → List ℕ → Type 0 where
+  begun : {strip work strip′ work′ : List ℕ} {v : ℤ} → BestAnswer a b strip work strip′ work′ (Value v)
+      → Going a b (shown a b strip′ ∷ []) (shown a b strip′)
+  went : {l : List (List ℕ)} {last strip work strip′ work′ : List ℕ} {v : ℤ} → Going a b l last → shown a b strip ≡ last
+      → NextAnswer a b strip work strip′ work′ (Next v) → Going a b (l ++ shown a b strip′ ∷ []) (shown a b strip′)
+
+-- and none is left
+pub data Ended (a b : List ℤ) (l : List (List ℕ)) : Type 0 where
+  ended : {last strip work strip′ work′ : List ℕ} → Going a b l last → shown a b strip ≡ last
+      → NextAnswer a b strip work strip′ work′ NoneLeft → Ended a b l
