@@ -1,0 +1,2 @@
+-- The one theorem over the table of 01's starred rows.
+pub mod Rows
