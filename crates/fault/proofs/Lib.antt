@@ -1,0 +1,2 @@
+-- What holds of the refusals' numbers.
+pub mod Numbers
