@@ -1,0 +1,2 @@
+-- What holds of the entry points for other languages.
+pub mod Exact

@@ -1,0 +1,19 @@
+-- `exports::refused` meets its contract: the number is the fault's. Assumes nothing.
+use mathlib.Core.Path.{ap}
+use Prim.Native.Nat.{ℕ}
+use lib.IntN.{pos}
+use borrow.Author.Needs.{needs}
+use Rattle.exports.proofs.refused.Statement.{statement}
+use Rattle.exports.proofs.refused.Tie as tie
+use Rattle.exports.proofs.refused.Reads as reads
+use Rattle.exports.proofs.refused.Lts as lts
+use Rattle.fault.proofs.number.Reads as number-reads
+
+number-requires : tie.Need-number-requires
+number-requires c κs = search needs
+
+returns : tie.Need-returns
+returns c = ap (λ (k : ℕ). record { number = k; place = c .before .args .refusal .place; value = pos 0 }) (c .number .ensures)
+
+pub refused-spec : {M : Type 1} → statement M
+refused-spec = tie.close (tie.spec number-requires returns)
