@@ -158,3 +158,20 @@ module _ {a b : List ℤ} {limit : ℕ} {lines work : List ℕ} where
     where
       lines-same : {v v′ : ℤ} {k k′ : ℕ} {more more′ : Bool} → v ≡ v′ → k ≡ k′ → more ≡ more′ → Run.Lines v k more ≡ Run.Lines v′ k′ more′
       lines-same e f g = cc
+
+-- ---- a refusal alters no lent byte
+
+module _ {a b : List ℤ} {strip work s w : List ℕ} where
+  pub best-refused-untouched : {r : Refusal} → BestAnswer a b strip work s w (Valued.Refused r) → Untouched strip work s w
+  best-refused-untouched (Answers.BestAnswer.pair p u) = u
+  best-refused-untouched (Answers.BestAnswer.room q n u) = u
+
+  pub next-refused-untouched : {r : Refusal} → NextAnswer a b strip work s w (Followed.Refused r) → Untouched strip work s w
+  next-refused-untouched (Answers.NextAnswer.pair p u) = u
+  next-refused-untouched (Answers.NextAnswer.room q n u) = u
+  next-refused-untouched (noStrip q e z u) = u
+  next-refused-untouched (below q e h i l u) = u
+
+  pub list-refused-untouched : {limit : ℕ} {r : Refusal} → ListAnswer a b limit strip work s w (Run.Refused r) → Untouched strip work s w
+  list-refused-untouched (Listing.ListAnswer.pair p u) = u
+  list-refused-untouched (Listing.ListAnswer.room q n u) = u
