@@ -2,13 +2,15 @@
 -- last pair is evaluated, which `ways` shows to be the greatest value; for the first ones rule (13)'s trace. Assumes nothing.
 use mathlib.Core.Path.{_≡_, refl, sym, ap, _∙_, subst}
 use mathlib.Core.List.{List, [], _∷_, _++_}
-use Prim.Native.Nat.{ℕ}
+use Prim.Native.Nat.{ℕ, _+_, _*_, _≤_}
 use native.Mathlib.Omega.{arith}
 use lib.IntN.{ℤ, pos, _*ℤ_}
-use lib.Signed.{_≤ℤ_, leZ}
+use lib.ListN.{length, take, replicate}
+use lib.Signed.{_≤ℤ_, _<ℤ_}
+use Rattle.whole.proofs.Order.{ltZ-true}
 use Rattle.whole.specs.Sum.{sum}
 use Rattle.whole.specs.Tests.{some, eqZ}
-use Rattle.fault.specs.declared.Fault.the-variants.{Twin, Turn, Strip}
+use Rattle.fault.specs.declared.Fault.the-variants.{Twin, Turn, Strip, Below}
 use Rattle.trace.specs.declared.Judgement.the-variants.{Fit, Unfit}
 use Rattle.trace.specs.Points.{count, px, py, segment, twiceArea}
 use Rattle.trace.specs.Judged.{judged, verdictOf, outAt, twinAt, inRange}
@@ -17,15 +19,18 @@ use Rattle.trace.proofs.Exact.{fit-exactly}
 use Rattle.ways.specs.Strip.{Step, A, B, stepsA, stepsB}
 use Rattle.ways.specs.Strip as Ways
 use Rattle.ways.specs.Value.{valueFrom, value}
-use Rattle.ways.specs.Best.{Best, FirstBest}
-use Rattle.ways.specs.Keppel.{top, pointer, trace, traced, maxℤ}
+use Rattle.ways.specs.Best.{Best, FirstBest, Onward, end, on, Listed}
+use Rattle.ways.specs.Keppel.{top, pointer, alsoB, trace, traced, maxℤ}
 use Rattle.ways.proofs.Answers.{nothing-greater, first-is-rule-13}
 use Rattle.strip.specs.Worth.{W, worths, worthA, worthB}
 use Rattle.strip.specs.Bytes.{bytes, times, IsStrip}
 use Rattle.strip.specs.Judging.{StripJudged, strip, other}
 use Rattle.strip.specs.declared.Valued.the-variants.{Value, Refused}
+use Rattle.joining.specs.declared.Followed.the-variants as Followed
+use Rattle.joining.specs.Answers.{Enough, HandedIn, NextAnswer, below, noneLeft}
 use Rattle.strip.proofs.BytesLaws.{numbers-exactly}
-use Rattle.cases.specs.Table.{Row, judging, offering, best, first, Holds, AllHold, none, and, T, later, repeated, turned, flat, eight, others, rows}
+use Rattle.cases.proofs.Lists.{clear, turned-next, none-next}
+use Rattle.cases.specs.Table.{Row, judging, offering, best, first, Holds, AllHold, none, and, T, later, repeated, turned, flat, eight, others, eightStrips, fourStrips, lists, list, asking, rows}
 
 -- ---- the traces
 
@@ -109,17 +114,92 @@ eight-hold =
 too-many : (l : List ℕ) → times 0 l ≡ 4 → IsStrip (count T) (count T) l → ⊥
 too-many l e i = omega (arith, e, numbers-exactly l .0 i .zeros, three .0)
 
+t-first : FirstBest (Ways.Strip (count T) (count T)) (W T T) (B ∷ A ∷ B ∷ A ∷ B ∷ A ∷ [])
+unfolding count px py worthA worthB top maxℤ pointer trace
+t-first = traces T (B ∷ A ∷ B ∷ A ∷ B ∷ A ∷ []) refl
+
+later-first : FirstBest (Ways.Strip (count T) (count later)) (W T later) (A ∷ B ∷ A ∷ B ∷ A ∷ B ∷ [])
+unfolding count px py worthA worthB top maxℤ pointer trace
+later-first = traces later (A ∷ B ∷ A ∷ B ∷ A ∷ B ∷ []) refl
+
 others-hold : AllHold others
 unfolding stepsA stepsB valueFrom worthA worthB count px py top maxℤ pointer trace times
 others-hold =
-    and (traces T (B ∷ A ∷ B ∷ A ∷ B ∷ A ∷ []) refl)
+    and t-first
     (and (offered T (A ∷ A ∷ A ∷ B ∷ B ∷ B ∷ []) (pairs T t-fit) (of-three (A ∷ A ∷ A ∷ B ∷ B ∷ B ∷ []) refl refl .0) refl)
     (and (other (pairs T t-fit) (too-many _ refl))
-    (and (traces later (A ∷ B ∷ A ∷ B ∷ A ∷ B ∷ []) refl)
+    (and later-first
     (and (offered later (A ∷ B ∷ A ∷ B ∷ A ∷ B ∷ []) (pairs later later-fit) (of-three (A ∷ B ∷ A ∷ B ∷ A ∷ B ∷ []) refl refl .1) refl)
     (and repeated-twin
     (and turned-turn
     (and flat-turn none)))))))
+
+-- ---- the whole lists
+
+best-of-t : (s : List Step) → stepsA s ≡ 3 → stepsB s ≡ 3 → W T T s ≡ pos 8 → Best (Ways.Strip (count T) (count T)) (W T T) s
+best-of-t s a b e = attains T s (of-three s a b .0) (e ∙ sym greatest-8)
+
+later-8 : top (worths T later) (count T) (count later) ≡ pos 8
+unfolding top maxℤ count px py worthA worthB
+later-8 = refl
+
+best-of-later : (s : List Step) → stepsA s ≡ 3 → stepsB s ≡ 3 → W T later s ≡ pos 8
+    → Best (Ways.Strip (count T) (count later)) (W T later) s
+best-of-later s a b e = attains later s (of-three s a b .1) (e ∙ sym later-8)
+
+t-onward : Onward (Ways.Strip (count T) (count T)) (W T T) (B ∷ A ∷ B ∷ A ∷ B ∷ A ∷ []) eightStrips
+unfolding stepsA stepsB valueFrom worthA worthB count px py top maxℤ pointer alsoB trace clear
+t-onward =
+    (on (turned-next (worths T T) (B ∷ []) (B ∷ A ∷ B ∷ A ∷ []) (best-of-t (B ∷ A ∷ B ∷ A ∷ B ∷ A ∷ []) refl refl refl) refl refl refl)
+    (on (turned-next (worths T T) (A ∷ B ∷ B ∷ []) (B ∷ A ∷ []) (best-of-t (A ∷ B ∷ B ∷ A ∷ B ∷ A ∷ []) refl refl refl) refl refl refl)
+    (on (turned-next (worths T T) (B ∷ []) (A ∷ B ∷ B ∷ A ∷ []) (best-of-t (B ∷ A ∷ A ∷ B ∷ B ∷ A ∷ []) refl refl refl) refl refl refl)
+    (on (turned-next (worths T T) (A ∷ B ∷ A ∷ B ∷ B ∷ []) [] (best-of-t (A ∷ B ∷ A ∷ B ∷ B ∷ A ∷ []) refl refl refl) refl refl refl)
+    (on (turned-next (worths T T) (B ∷ []) (B ∷ A ∷ A ∷ B ∷ []) (best-of-t (B ∷ A ∷ B ∷ A ∷ A ∷ B ∷ []) refl refl refl) refl refl refl)
+    (on (turned-next (worths T T) (A ∷ B ∷ B ∷ []) (A ∷ B ∷ []) (best-of-t (A ∷ B ∷ B ∷ A ∷ A ∷ B ∷ []) refl refl refl) refl refl refl)
+    (on (turned-next (worths T T) (B ∷ []) (A ∷ B ∷ A ∷ B ∷ []) (best-of-t (B ∷ A ∷ A ∷ B ∷ A ∷ B ∷ []) refl refl refl) refl refl refl)
+    (end (none-next (worths T T) (A ∷ B ∷ A ∷ B ∷ A ∷ B ∷ []) (best-of-t (A ∷ B ∷ A ∷ B ∷ A ∷ B ∷ []) refl refl refl) refl)))))))))
+
+later-onward : Onward (Ways.Strip (count T) (count later)) (W T later) (A ∷ B ∷ A ∷ B ∷ A ∷ B ∷ []) fourStrips
+unfolding stepsA stepsB valueFrom worthA worthB count px py top maxℤ pointer alsoB trace clear
+later-onward =
+    (on (turned-next (worths T later) (A ∷ B ∷ []) (B ∷ A ∷ B ∷ []) (best-of-later (A ∷ B ∷ A ∷ B ∷ A ∷ B ∷ []) refl refl refl) refl refl refl)
+    (on (turned-next (worths T later) (A ∷ A ∷ B ∷ B ∷ []) (B ∷ []) (best-of-later (A ∷ A ∷ B ∷ B ∷ A ∷ B ∷ []) refl refl refl) refl refl refl)
+    (on (turned-next (worths T later) (A ∷ B ∷ []) (A ∷ B ∷ B ∷ []) (best-of-later (A ∷ B ∷ A ∷ A ∷ B ∷ B ∷ []) refl refl refl) refl refl refl)
+    (end (none-next (worths T later) (A ∷ A ∷ B ∷ A ∷ B ∷ B ∷ []) (best-of-later (A ∷ A ∷ B ∷ A ∷ B ∷ B ∷ []) refl refl refl) refl)))))
+
+-- ---- asked for the next
+
+enough : (s : List Step) → length (bytes s) ≡ 6 → Enough T T (bytes s) (replicate 16 0)
+enough s e = record {
+  forStrip = omega (arith, e, three .0);
+  forWork = subst (λ (k : ℕ). (k + 1) * (k + 1) ≤ length (replicate {A = ℕ} 16 0)) (sym (three .0)) (omega arith);
+}
+
+abbrev handed : (s : List Step) → take (count T + count T) (bytes s) ≡ bytes s → Ways.Strip (count T) (count T) s → HandedIn T T (bytes s)
+handed s e i = record { steps = s; written = e; strip = i }
+
+below-8 : NextAnswer T T (bytes (A ∷ A ∷ A ∷ B ∷ B ∷ B ∷ [])) (replicate 16 0) (bytes (A ∷ A ∷ A ∷ B ∷ B ∷ B ∷ [])) (replicate 16 0) (Followed.Refused (at Below 0))
+unfolding stepsA stepsB valueFrom worthA worthB count px py
+below-8 =
+    below (pairs T t-fit) (enough (A ∷ A ∷ A ∷ B ∷ B ∷ B ∷ []) refl) (handed (A ∷ A ∷ A ∷ B ∷ B ∷ B ∷ []) refl (of-three (A ∷ A ∷ A ∷ B ∷ B ∷ B ∷ []) refl refl .0))
+    (of-three (A ∷ B ∷ A ∷ B ∷ A ∷ B ∷ []) refl refl .0) (ltZ-true (pos 0) (pos 8) refl)
+    (record { stripSame = refl; workSame = refl })
+
+none-left : NextAnswer T T (bytes (A ∷ B ∷ A ∷ B ∷ A ∷ B ∷ [])) (replicate 16 0) (bytes (A ∷ B ∷ A ∷ B ∷ A ∷ B ∷ [])) (replicate 16 0) Followed.NoneLeft
+unfolding stepsA stepsB valueFrom worthA worthB count px py top maxℤ pointer alsoB trace clear
+none-left =
+    let s : List Step = A ∷ B ∷ A ∷ B ∷ A ∷ B ∷ [] in
+    let b = best-of-t s refl refl refl in
+    noneLeft (pairs T t-fit) (enough s refl) (handed s refl (b .is)) b (none-next (worths T T) s b refl) refl (record { zeros = refl })
+
+t-list : Listed (Ways.Strip (count T) (count T)) (W T T) eightStrips
+t-list = record { start = B ∷ A ∷ B ∷ A ∷ B ∷ A ∷ []; first = t-first; onward = t-onward }
+
+later-list : Listed (Ways.Strip (count T) (count later)) (W T later) fourStrips
+later-list = record { start = A ∷ B ∷ A ∷ B ∷ A ∷ B ∷ []; first = later-first; onward = later-onward }
+
+lists-hold : AllHold lists
+lists-hold = and t-list (and later-list (and below-8 (and none-left none)))
 
 all-hold : {k l : List Row} → AllHold k → AllHold l → AllHold (k ++ l)
 all-hold none y = y
@@ -127,4 +207,4 @@ all-hold (and h x) y = and h (all-hold x y)
 
 -- "One table with one theorem over it"
 pub rows-hold : AllHold rows
-rows-hold = all-hold eight-hold others-hold
+rows-hold = all-hold eight-hold (all-hold others-hold lists-hold)

@@ -3,7 +3,8 @@ use mathlib.Core.Path.{_≡_}
 use mathlib.Core.List.{List, [], _∷_, _++_}
 use Prim.Native.Nat.{ℕ}
 use lib.IntN.{ℤ, pos}
-use Rattle.fault.specs.declared.Fault.the-variants.{Twin, Turn, Strip}
+use lib.ListN.{replicate}
+use Rattle.fault.specs.declared.Fault.the-variants.{Twin, Turn, Strip, Below}
 use Rattle.trace.specs.declared.Judgement.{Judgement}
 use Rattle.trace.specs.declared.Judgement.the-variants.{Unfit}
 use Rattle.trace.specs.Points.{count}
@@ -11,12 +12,15 @@ use Rattle.trace.specs.Judged.{judged}
 use Rattle.trace.specs.Pair.{at}
 use Rattle.ways.specs.Strip.{Step, A, B}
 use Rattle.ways.specs.Strip as Ways
-use Rattle.ways.specs.Best.{Best, FirstBest}
+use Rattle.ways.specs.Best.{Best, FirstBest, Listed}
 use Rattle.strip.specs.Worth.{W}
 use Rattle.strip.specs.Bytes.{bytes}
 use Rattle.strip.specs.Judging.{StripJudged}
 use Rattle.strip.specs.declared.Valued.{Valued}
 use Rattle.strip.specs.declared.Valued.the-variants.{Value, Refused}
+use Rattle.joining.specs.declared.Followed.{Followed}
+use Rattle.joining.specs.declared.Followed.the-variants as Followed
+use Rattle.joining.specs.Answers.{NextAnswer}
 
 -- what a row of the table says
 pub data Row : Type 0 where
@@ -28,12 +32,18 @@ pub data Row : Type 0 where
   best : List ℤ → List ℤ → List Step → Row
   -- of those this one is the first
   first : List ℤ → List ℤ → List Step → Row
+  -- these are all the best ones, in 01's order
+  list : List ℤ → List ℤ → List (List Step) → Row
+  -- the answer to a strip handed in for its next, which leaves the strip slice and, with 16 zeros lent, the work slice as they were
+  asking : List ℤ → List ℤ → List Step → Followed → Row
 
 abbrev pub Holds : Row → Type 0
 Holds (judging c r) = judged c ≡ r
 Holds (offering a b s r) = StripJudged a b (bytes s) r
 Holds (best a b s) = Best (Ways.Strip (count a) (count b)) (W a b) s
 Holds (first a b s) = FirstBest (Ways.Strip (count a) (count b)) (W a b) s
+Holds (list a b l) = Listed (Ways.Strip (count a) (count b)) (W a b) l
+Holds (asking a b s r) = NextAnswer a b (bytes s) (replicate 16 0) (bytes s) (replicate 16 0) r
 
 pub data AllHold : List Row → Type 0 where
   none : AllHold []
@@ -91,5 +101,35 @@ others =
     ∷ judging flat (Unfit Turn)
     ∷ []
 
+-- 01's example prints them: "BABABA ABBABA BAABBA ABABBA BABAAB ABBAAB BAABAB ABABAB"
+abbrev pub eightStrips : List (List Step)
+eightStrips =
+    (B ∷ A ∷ B ∷ A ∷ B ∷ A ∷ [])
+    ∷ (A ∷ B ∷ B ∷ A ∷ B ∷ A ∷ [])
+    ∷ (B ∷ A ∷ A ∷ B ∷ B ∷ A ∷ [])
+    ∷ (A ∷ B ∷ A ∷ B ∷ B ∷ A ∷ [])
+    ∷ (B ∷ A ∷ B ∷ A ∷ A ∷ B ∷ [])
+    ∷ (A ∷ B ∷ B ∷ A ∷ A ∷ B ∷ [])
+    ∷ (B ∷ A ∷ A ∷ B ∷ A ∷ B ∷ [])
+    ∷ (A ∷ B ∷ A ∷ B ∷ A ∷ B ∷ [])
+    ∷ []
+
+abbrev pub fourStrips : List (List Step)
+fourStrips =
+    (A ∷ B ∷ A ∷ B ∷ A ∷ B ∷ [])
+    ∷ (A ∷ A ∷ B ∷ B ∷ A ∷ B ∷ [])
+    ∷ (A ∷ B ∷ A ∷ A ∷ B ∷ B ∷ [])
+    ∷ (A ∷ A ∷ B ∷ A ∷ B ∷ B ∷ [])
+    ∷ []
+
+-- the whole lists, "four best strips" among them; "T, AAABBB: .. asking for its next gives BELOW", "T, ABABAB: next is 100"
+abbrev pub lists : List Row
+lists =
+    list T T eightStrips
+    ∷ list T later fourStrips
+    ∷ asking T T (A ∷ A ∷ A ∷ B ∷ B ∷ B ∷ []) (Followed.Refused (at Below 0))
+    ∷ asking T T (A ∷ B ∷ A ∷ B ∷ A ∷ B ∷ []) Followed.NoneLeft
+    ∷ []
+
 abbrev pub rows : List Row
-rows = eight ++ others
+rows = eight ++ (others ++ lists)

@@ -1,3 +1,12 @@
--- Laws about the closed triangle list: its directed sides balance, and six times its volume is the sum of the band rule.
+-- What 01 says of the closed triangle list and of the volume (Answers), and the laws about sides and determinants behind it.
+pub mod Answers
 pub mod Balance
 pub mod Volumes
+mod Rings
+mod StepBytes
+mod Parts
+mod Stacked
+mod SixLaws
+mod MeshLaws
+mod WriteLaws
+mod ClosedLaws

@@ -1,6 +1,6 @@
 -- 01, "The closed triangle list": triangles of a band and of the two caps, by vertex numbers, and their directed sides.
 -- A trace is a function p from indices to vertex numbers; indices run round, so p m is p 0.
-use mathlib.Core.Bool.{Bool, _&&_, cond}
+use mathlib.Core.Bool.{_&&_, cond}
 use mathlib.Core.List.{List, [], _∷_}
 use Prim.Native.Nat.{ℕ, zero, suc, _+_}
 use lib.Dec.{eqb}

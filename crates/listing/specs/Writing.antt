@@ -1,0 +1,25 @@
+-- What every writer does, and the steps that a strip's bytes say.
+use mathlib.Core.Path.{_≡_}
+use mathlib.Core.Bool.{cond}
+use mathlib.Core.List.{List, _++_, map}
+use Prim.Native.Nat.{ℕ, _+_, _≤_}
+use lib.Dec.{eqb}
+use lib.ListN.{length, take, drop}
+use Rattle.ways.specs.Strip.{Step, A, B}
+
+-- there is room for `bytes` from place k on
+pub record Room (out : List ℕ) (k : ℕ) (bytes : List ℕ) : Type 0 where
+  pub fits : k + length bytes ≤ length out
+
+-- `bytes` stand from place k on, up to place n, and everything else is as before
+pub record Wrote (out : List ℕ) (k : ℕ) (bytes out′ : List ℕ) (n : ℕ) : Type 0 where
+  pub next : n ≡ k + length bytes
+  pub room : n ≤ length out
+  pub whole : out′ ≡ take k out ++ bytes ++ drop n out
+
+-- 01: "Step A (byte 0) .. Step B (byte 1)"
+abbrev pub stepOf : ℕ → Step
+stepOf b = cond (eqb b 0) A B
+
+abbrev pub stepsOf : List ℕ → List Step
+stepsOf l = map stepOf l

@@ -1,0 +1,5 @@
+// The text of the listing program: what is read, and the lines that are written.
+mod asked;
+mod lines;
+mod numeral;
+mod words;

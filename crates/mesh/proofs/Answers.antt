@@ -1,0 +1,163 @@
+-- What 01 says of the closed triangle list and of the volume, for every accepted stack with its strips; and that the contracts of
+-- `volume` and `triangles` leave one outcome for each input.
+--
+-- The stack's bands are bands between rings of vertex numbers (`Stacked`), its caps have their traces as borders, so `Balance` and
+-- `Volumes` give the first two; the bound is `Stacked`'s. Of two outcomes, the one that comes later in 01's order contradicts the
+-- earlier. Assumes nothing.
+use mathlib.Core.Path.{_≡_, refl, sym, ap}
+use mathlib.Core.List.{List}
+use Prim.Native.Nat.{ℕ, _-_, _≤_, _<_}
+use native.Mathlib.Omega.{arith}
+use lib.IntN.{ℤ}
+use lib.ListN.{length}
+use Rattle.whole.specs.Between.{Within}
+use Rattle.fault.specs.declared.Refusal.{Refusal}
+use Rattle.stack.specs.declared.Layer.{Layer}
+use Rattle.stack.specs.declared.Stack.{Stack}
+use Rattle.stack.specs.declared.StackJudgement.the-variants as stack-is
+use Rattle.stack.specs.declared.StripsJudgement.the-variants as strips-are
+use Rattle.stack.specs.Entries.{entry}
+use Rattle.stack.specs.Faults.{AcceptedStack, StackJudged, fit}
+use Rattle.stack.specs.Strips.{StripsRight, StripsJudged, whole as right}
+use Rattle.stack.specs.Gathered.{Gathers}
+use Rattle.stack.specs.Laid.{laid}
+use Rattle.stack.proofs.Exact.{stack-judged-unique, strips-judged-unique}
+use Rattle.stack.proofs.Laying.{laid-gathers}
+use Rattle.stack.proofs.StackLaws.{accepted-count}
+use Rattle.mesh.specs.declared.Volumed.{Volumed}
+use Rattle.mesh.specs.declared.Volumed.the-variants as volume-is
+use Rattle.mesh.specs.declared.Meshed.{Meshed}
+use Rattle.mesh.specs.declared.Meshed.the-variants as mesh-is
+use Rattle.mesh.specs.Meshing.{Measured, Triangled, stack, strips, six, room, whole}
+use Rattle.mesh.specs.Triangles.{Tri, sides}
+use Rattle.mesh.specs.Volume.{sixAll}
+use Rattle.mesh.specs.Closed.{ring, closed, floorOf, roofOf}
+use Rattle.mesh.specs.Bands.{sixOf, xOf, yOf, zOf}
+use Rattle.mesh.proofs.Balance.{RimBack, Rim, roof-rim, floor-rim, closed-balanced}
+use Rattle.mesh.proofs.Volumes.{roof-level, floor-level, sum-bands, closed-six}
+use Rattle.mesh.proofs.Rings.{ring-round, z-ring}
+use Rattle.mesh.proofs.ClosedLaws.{closed-length}
+use Rattle.mesh.proofs.Stacked.{bands-sum, sums-within}
+
+-- the border of a layer's caps is its trace
+floor-border : (e : Layer) → 3 ≤ e .count → RimBack (ring e) (e .count) (floorOf e)
+unfolding floorOf
+floor-border e h = floor-rim (ring e) (e .count) (omega arith) (ring-round e)
+
+roof-border : (e : Layer) → 3 ≤ e .count → Rim (ring e) (e .count) (roofOf e)
+unfolding roofOf
+roof-border e h = roof-rim (ring e) (e .count) (omega arith) (ring-round e)
+
+module _ {es : List Layer} {c : List ℤ} {l : List ℕ} (a : AcceptedStack es c) (r : StripsRight es l) where
+  lowest : 0 < length es
+  lowest = omega (arith, a .layers .two)
+
+  highest : length es - 1 < length es
+  highest = omega (arith, a .layers .two)
+
+  -- In the closed triangle list every directed side occurs exactly as often as its reverse.
+  pub sides-balance : (x y : ℕ) → sides x y (closed es l) ≡ sides y x (closed es l)
+  unfolding closed
+  sides-balance = closed-balanced (sum-bands (bands-sum a r (length es - 1) highest))
+      (floor-border (entry es 0) (accepted-count a 0 lowest .few))
+      (roof-border (entry es (length es - 1)) (accepted-count a (length es - 1) highest .few))
+
+  -- Six times the volume of the closed list, the sum of the determinants of its triangles, is the sum of the band rule.
+  pub volume-is-the-band-rule : sixAll (xOf c) (yOf c) (zOf es) (closed es l) ≡ sixOf es c l
+  unfolding closed sixOf floorOf roofOf
+  volume-is-the-band-rule = closed-six (xOf c) (yOf c) (zOf es) (bands-sum a r (length es - 1) highest)
+      (floor-border (entry es 0) (accepted-count a 0 lowest .few))
+      (floor-level (ring (entry es 0)) (z-ring a 0 lowest) 1 (entry es 0 .count - 2))
+      (roof-border (entry es (length es - 1)) (accepted-count a (length es - 1) highest .few))
+      (roof-level (ring (entry es (length es - 1))) (z-ring a (length es - 1) highest) 1 (entry es (length es - 1) .count - 2))
+
+  -- It lies within 4·10^18 of zero.
+  pub volume-bounded : Within 4000000000000000000 (sixOf es c l)
+  unfolding sixOf
+  volume-bounded = sums-within a r (length es - 1) highest
+
+-- So what `triangles` answers beside a list is its number of triangles and the sum of its determinants, and its sides balance.
+pub record True (es : List Layer) (c : List ℤ) (ts : List Tri) (n : ℕ) (s : ℤ) : Type 0 where
+  pub number : n ≡ length ts
+  pub volume : s ≡ sixAll (xOf c) (yOf c) (zOf es) ts
+  pub balance : (x y : ℕ) → sides x y ts ≡ sides y x ts
+
+pub closed-is-true : {es : List Layer} {c : List ℤ} {l out new : List ℕ} {n : ℕ} {s : ℤ}
+    → Triangled es c l out new (mesh-is.Closed n s) → True es c (closed es l) n s
+closed-is-true (whole a _ r) = record {
+  number = sym (closed-length r (omega (arith, a .layers .two)));
+  volume = sym (volume-is-the-band-rule a r);
+  balance = sides-balance a r;
+}
+
+-- ---- two outcomes that the contracts allow for one input coincide
+
+module _ {es : List Layer} {c : List ℤ} where
+  refused-once : {r s : Refusal} → StackJudged es c (stack-is.Refused r) → StackJudged es c (stack-is.Refused s) → r ≡ s
+  refused-once p q = same (stack-judged-unique p q)
+    where
+      same : {r s : Refusal} → stack-is.Refused r ≡ stack-is.Refused s → r ≡ s
+      same e = cc
+
+  not-both : {r : Refusal} → StackJudged es c (stack-is.Refused r) → AcceptedStack es c → ⊥
+  not-both p a = differ (stack-judged-unique p (fit a))
+    where
+      differ : {r : Refusal} {m n : ℕ} → stack-is.Refused r ≡ stack-is.Fit m n → ⊥
+      differ e = let z : _≡_ {A = ℕ} 0 1 = cc in omega arith
+
+module _ {es : List Layer} {l : List ℕ} where
+  strips-once : {r s : Refusal} → StripsJudged es l (strips-are.Refused r) → StripsJudged es l (strips-are.Refused s) → r ≡ s
+  strips-once p q = same (strips-judged-unique p q)
+    where
+      same : {r s : Refusal} → strips-are.Refused r ≡ strips-are.Refused s → r ≡ s
+      same e = cc
+
+  no-strips : {r : Refusal} → StripsJudged es l (strips-are.Refused r) → StripsRight es l → ⊥
+  no-strips p s = differ (strips-judged-unique p (right s))
+    where
+      differ : {r : Refusal} → strips-are.Refused r ≡ strips-are.Whole → ⊥
+      differ e = let z : _≡_ {A = ℕ} 0 1 = cc in omega arith
+
+short-long : {m n : ℕ} → m < n → n ≤ m → ⊥
+short-long h g = omega arith
+
+module _ {es : List Layer} {c : List ℤ} {l : List ℕ} where
+  measured-once : {r s : Volumed} → Measured es c l r → Measured es c l s → r ≡ s
+  measured-once (stack p) (stack q) = ap volume-is.Refused (refused-once p q)
+  measured-once (stack p) (strips a _) = absurd (not-both p a)
+  measured-once (stack p) (six a _) = absurd (not-both p a)
+  measured-once (strips a _) (stack q) = absurd (not-both q a)
+  measured-once (strips _ p) (strips _ q) = ap volume-is.Refused (strips-once p q)
+  measured-once (strips _ p) (six _ s) = absurd (no-strips p s)
+  measured-once (six a _) (stack q) = absurd (not-both q a)
+  measured-once (six _ s) (strips _ q) = absurd (no-strips q s)
+  measured-once (six _ _) (six _ _) = refl
+
+  triangled-once : {out new old : List ℕ} {r s : Meshed} → Triangled es c l out new r → Triangled es c l out old s → (new ≡ old) × (r ≡ s)
+  triangled-once (stack p) (stack q) = (refl, ap mesh-is.Refused (refused-once p q))
+  triangled-once (stack p) (room a _) = absurd (not-both p a)
+  triangled-once (stack p) (strips a _ _) = absurd (not-both p a)
+  triangled-once (stack p) (whole a _ _) = absurd (not-both p a)
+  triangled-once (room a _) (stack q) = absurd (not-both q a)
+  triangled-once (room _ _) (room _ _) = (refl, refl)
+  triangled-once (room _ h) (strips _ g _) = absurd (short-long h g)
+  triangled-once (room _ h) (whole _ g _) = absurd (short-long h g)
+  triangled-once (strips a _ _) (stack q) = absurd (not-both q a)
+  triangled-once (strips _ g _) (room _ h) = absurd (short-long h g)
+  triangled-once (strips _ _ p) (strips _ _ q) = (refl, ap mesh-is.Refused (strips-once p q))
+  triangled-once (strips _ _ p) (whole _ _ s) = absurd (no-strips p s)
+  triangled-once (whole a _ _) (stack q) = absurd (not-both q a)
+  triangled-once (whole _ g _) (room _ h) = absurd (short-long h g)
+  triangled-once (whole _ _ s) (strips _ _ q) = absurd (no-strips q s)
+  triangled-once (whole _ _ _) (whole _ _ _) = (refl, refl)
+
+-- `volume` leaves one answer for each input: every Stack gathers some entries.
+pub volume-unique : (st : Stack) (c : List ℤ) (l : List ℕ) {r s : Volumed} → ((es : List Layer) → Gathers st es → Measured es c l r)
+    → ((es : List Layer) → Gathers st es → Measured es c l s) → r ≡ s
+volume-unique st c l p q = measured-once (p (laid st) (laid-gathers st)) (q (laid st) (laid-gathers st))
+
+-- `triangles` leaves one answer and one list in the lent slice for each input.
+pub triangled-unique : (st : Stack) (c : List ℤ) (l out : List ℕ) {new old : List ℕ} {r s : Meshed}
+    → ((es : List Layer) → Gathers st es → Triangled es c l out new r) → ((es : List Layer) → Gathers st es → Triangled es c l out old s)
+    → (new ≡ old) × (r ≡ s)
+triangled-unique st c l out p q = triangled-once (p (laid st) (laid-gathers st)) (q (laid st) (laid-gathers st))

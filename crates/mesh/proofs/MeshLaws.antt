@@ -1,0 +1,134 @@
+-- What the entry points answer, from what the judgements say of the entries that the arrays hold to what 01 says of all that the
+-- stack gathers: an answer for over 20 layers is the stack's refusal whatever the entries are. Assumes nothing.
+use mathlib.Core.Path.{_≡_, sym, ap, _∙_, subst}
+use mathlib.Core.List.{List}
+use Prim.Native.Nat.{ℕ, _+_, _-_, _*_, _≤_, _<_}
+use native.Mathlib.Omega.{arith}
+use lib.IntN.{ℤ}
+use lib.ListN.{length}
+use mir.Syntax.{w64}
+use mir.Val.{toZ, ofZ}
+use Rattle.whole.proofs.Machine.{held, from}
+use Rattle.fault.specs.declared.Refusal.{Refusal}
+use Rattle.fault.specs.declared.Fault.the-variants.{Room}
+use Rattle.trace.specs.Pair.{at}
+use Rattle.stack.specs.declared.Layer.{Layer}
+use Rattle.stack.specs.declared.Stack.{Stack}
+use Rattle.stack.specs.declared.StackJudgement.{StackJudgement}
+use Rattle.stack.specs.declared.StackJudgement.the-variants as stack-is
+use Rattle.stack.specs.declared.StripsJudgement.{StripsJudgement}
+use Rattle.stack.specs.declared.StripsJudgement.the-variants as strips-are
+use Rattle.stack.specs.Entries.{entry, steps}
+use Rattle.stack.specs.Faults.{AcceptedStack, StackJudged}
+use Rattle.stack.specs.Strips.{StripsRight, StripsJudged, StripsAnswered}
+use Rattle.stack.specs.Gathered.{Gathers}
+use Rattle.stack.specs.Laid.{laid}
+use Rattle.stack.proofs.Exact.{fit-exactly, whole-exactly, answered-judged}
+use Rattle.stack.proofs.Laying.{laid-long, laid-only, laid-twenty, laid-gathers, for-gathered}
+use Rattle.stack.proofs.StackLaws.{accepted-count, accepted-steps}
+use Rattle.mesh.specs.declared.Volumed.the-variants.{Six}
+use Rattle.mesh.specs.declared.Meshed.the-variants as mesh-is
+use Rattle.mesh.specs.Closed.{closed, triangles}
+use Rattle.mesh.specs.Bands.{sixOf}
+use Rattle.mesh.specs.Meshing.{Measured, six, Triangled, room, whole}
+use Rattle.mesh.specs.Working.{Fitted, Sized, stackRefusal, stripsRefusal}
+use Rattle.mesh.specs.Writing.{Filled}
+use Rattle.mesh.proofs.Answers.{volume-bounded}
+use Rattle.mesh.proofs.ClosedLaws.{closed-length}
+
+-- what a judgement of a Stack says of any entries that it gathers
+abbrev pub OfStack : Stack → List ℤ → StackJudgement → Type 0
+OfStack st c j = (es : List Layer) → Gathers st es → StackJudged es c j
+
+abbrev pub OfStrips : Stack → List ℕ → StripsJudgement → Type 0
+OfStrips st l j = (es : List Layer) → Gathers st es → StripsAnswered es l j
+
+module _ {st : Stack} {c : List ℤ} {j : StackJudgement} (s : OfStack st c j) where
+  -- a refusal is the stack's
+  pub stack-refused : {q r : Refusal} → j ≡ stack-is.Refused q → r ≡ stackRefusal j → (es : List Layer) → Gathers st es
+      → StackJudged es c (stack-is.Refused r)
+  stack-refused e f es g = subst (StackJudged es c) (e ∙ ap stack-is.Refused (sym (f ∙ ap stackRefusal e))) (s es g)
+
+  pub stack-fit : {points n : ℕ} → j ≡ stack-is.Fit points n → (es : List Layer) → Gathers st es → AcceptedStack es c
+  stack-fit {points} {n} e es g = fit-exactly points n .0 (subst (StackJudged es c) e (s es g)) .0
+
+  pub stack-steps : {points n : ℕ} → j ≡ stack-is.Fit points n → n ≡ steps (laid st)
+  stack-steps {points} {n} e = fit-exactly points n .0 (subst (StackJudged (laid st) c) e (s (laid st) (laid-gathers st))) .2
+
+module _ {st : Stack} {c : List ℤ} {l : List ℕ} {j : StripsJudgement} (s : OfStrips st l j) where
+  pub strips-refused : {q r : Refusal} → j ≡ strips-are.Refused q → r ≡ stripsRefusal j → (es : List Layer) → Gathers st es
+      → AcceptedStack es c → StripsJudged es l (strips-are.Refused r)
+  strips-refused e f es g a =
+      answered-judged (a .layers .twenty)
+      (subst (StripsAnswered es l) (e ∙ ap strips-are.Refused (sym (f ∙ ap stripsRefusal e))) (s es g))
+
+  pub strips-right : j ≡ strips-are.Whole → (es : List Layer) → Gathers st es → AcceptedStack es c → StripsRight es l
+  strips-right e es g a = whole-exactly .0 (answered-judged (a .layers .twenty) (subst (StripsAnswered es l) e (s es g)))
+
+-- the entries that the arrays hold
+pub fitted : {st : Stack} {c : List ℤ} {l : List ℕ} {i : StackJudgement} {j : StripsJudgement} {points n : ℕ} → OfStack st c i
+    → i ≡ stack-is.Fit points n → OfStrips st l j → j ≡ strips-are.Whole → Fitted st c l
+fitted {st} s e t f =
+    let a = stack-fit s e (laid st) (laid-gathers st) in
+    record { stack = a; strips = strips-right t f (laid st) (laid-gathers st) a }
+
+-- ---- the volume
+
+six-read : {st : Stack} {c : List ℤ} {l : List ℕ} {v : ℤ} → Fitted st c l → v ≡ sixOf (laid st) c l
+    → toZ w64 (ofZ w64 v) ≡ sixOf (laid st) c l
+six-read f e = held w64 (from e (volume-bounded (f .stack) (f .strips))) tt .is
+
+pub measured : {st : Stack} {c : List ℤ} {l : List ℕ} {v : ℤ} → Fitted st c l → v ≡ sixOf (laid st) c l
+    → (es : List Layer) → Gathers st es → Measured es c l (Six (toZ w64 (ofZ w64 v)))
+measured {st} {c} {l} f e = for-gathered _ st (laid-twenty st (f .stack .layers))
+    (subst (λ (z : ℤ). Measured (laid st) c l (Six z)) (sym (six-read f e)) (six (f .stack) (f .strips)))
+
+-- ---- the list
+
+pub sized : {st : Stack} {c : List ℤ} → AcceptedStack (laid st) c → Sized st
+sized {st} a = record {
+  some = omega (arith, a .layers .two, laid-long st);
+  twenty = laid-twenty st (a .layers);
+  three = λ k h. accepted-count a k (omega (arith, laid-long st)) .few;
+  many = λ k h. accepted-count a k (omega (arith, laid-long st)) .many;
+  steps = accepted-steps a;
+}
+
+-- the counts of a layer
+pub in-sized : {st : Stack} {k : ℕ} {e : Layer} → Sized st → k < st .layers → e ≡ entry (laid st) k → (3 ≤ e .count) × (e .count ≤ 250)
+in-sized {st} {k} {e} s h p = rw p (s .three k h, s .many k h)
+
+pub triangles-counted : (st : Stack) {n : ℕ} {d e : Layer} → n ≡ steps (laid st) → d ≡ entry (laid st) 0
+    → e ≡ entry (laid st) (st .layers - 1) → n + (d .count - 2) + (e .count - 2) ≡ triangles (laid st)
+unfolding triangles
+triangles-counted st h p q = rw (h, p, q, laid-long st)
+
+pub triangles-few : {st : Stack} → Sized st → triangles (laid st) ≤ 10000
+unfolding triangles
+triangles-few {st} s = omega (
+  arith,
+  s .steps,
+  s .many 0 (s .some),
+  s .many (length (laid st) - 1) (omega (arith, laid-long st, s .some)),
+)
+
+-- the stack is accepted, but the slice is too short
+pub no-room : {st : Stack} {c : List ℤ} {l out : List ℕ} {j : StackJudgement} {points n count : ℕ} → OfStack st c j
+    → j ≡ stack-is.Fit points n → count ≡ triangles (laid st) → length out < 3 * count
+    → (es : List Layer) → Gathers st es → Triangled es c l out out (mesh-is.Refused (at Room 0))
+no-room {st} s e f h =
+    let a = stack-fit s e (laid st) (laid-gathers st) in
+    for-gathered _ st (laid-twenty st (a .layers)) (room a (omega arith))
+
+pub roomy : {st : Stack} {es : List Layer} {c : List ℤ} (out : List ℕ) {count : ℕ} → AcceptedStack es c → Gathers st es
+    → count ≡ triangles (laid st) → 3 * count ≤ length out → 3 * triangles es ≤ length out
+roomy {st} {es} out a g f h =
+    let e : es ≡ laid st = laid-only st es (omega (arith, a .layers .twenty, g .long)) g in
+    subst (λ (es : List Layer). 3 * triangles es ≤ length out) (sym e) (omega arith)
+
+pub triangled : {st : Stack} {c : List ℤ} {l old new : List ℕ} {v : ℤ} {n : ℕ} → Fitted st c l → v ≡ sixOf (laid st) c l
+    → n ≡ triangles (laid st) → 3 * n ≤ length old → Filled (closed (laid st) l) old new
+    → (es : List Layer) → Gathers st es → Triangled es c l old new (mesh-is.Closed n (toZ w64 (ofZ w64 v)))
+triangled {st} {c} {l} {old} {new} {v} {n} f e h r w = for-gathered _ st (laid-twenty st (f .stack .layers))
+    (rw (six-read f e, h, w .filled, closed-length (f .strips) (omega (arith, f .stack .layers .two)))
+    (whole (f .stack) (omega arith) (f .strips)))

@@ -1,0 +1,56 @@
+-- 01, "The closed triangle list", of a stack with its strips.
+use mathlib.Core.List.{List, [], _∷_, _++_, map}
+use Prim.Native.Nat.{ℕ, zero, suc, _+_, _-_, _%_}
+use lib.ListN.{length}
+use Rattle.ways.specs.Strip.{Step, A, B}
+use Rattle.stack.specs.declared.Layer.{Layer}
+use Rattle.stack.specs.Entries.{entry, steps}
+use Rattle.stack.specs.Strips.{bandPart}
+use Rattle.mesh.specs.Triangles.{Tri, bandFrom, roofFrom, floorFrom}
+
+-- "Vertices are numbered through the stack from 0": point i of a layer's trace, and "Indices run round"
+unfoldable pub ring : Layer → ℕ → ℕ
+ring e i = e .first + i % e .count
+
+-- "Step A (byte 0) .. Step B (byte 1)"
+abbrev pub stepOf : ℕ → Step
+stepOf zero = A
+stepOf (suc n) = B
+
+abbrev pub stepsOf : List ℕ → List Step
+stepsOf l = map stepOf l
+
+-- the triangles of band k, between layer k and the one above it, "in step order"
+unfoldable pub bandOf : List Layer → List ℕ → ℕ → List Tri
+bandOf es l k = bandFrom (ring (entry es k)) (ring (entry es (suc k))) 0 0 (stepsOf (bandPart es l k))
+
+-- "Bands come from the bottom up": those below band k
+unfoldable pub bandsTo : List Layer → List ℕ → ℕ → List Tri
+bandsTo es l zero = []
+bandsTo es l (suc k) = bandsTo es l k ++ bandOf es l k
+
+-- "Then the bottom cap: (P0, Pk+1, Pk) for k from 1 to m-2. Then the top cap: (P0, Pk, Pk+1) for k from 1 to its number of points
+-- less 2."
+unfoldable pub floorOf : Layer → List Tri
+floorOf e = floorFrom (ring e) 1 (e .count - 2)
+
+unfoldable pub roofOf : Layer → List Tri
+roofOf e = roofFrom (ring e) 1 (e .count - 2)
+
+abbrev pub bottom : List Layer → Layer
+bottom es = entry es 0
+
+abbrev pub top : List Layer → Layer
+top es = entry es (length es - 1)
+
+unfoldable pub closed : List Layer → List ℕ → List Tri
+closed es l = bandsTo es l (length es - 1) ++ floorOf (bottom es) ++ roofOf (top es)
+
+-- how many they are
+unfoldable pub triangles : List Layer → ℕ
+triangles es = steps es + (bottom es .count - 2) + (top es .count - 2)
+
+-- "three numbers a triangle"
+unfoldable pub numbers : List Tri → List ℕ
+numbers [] = []
+numbers (t ∷ ts) = t .u ∷ t .v ∷ t .w ∷ numbers ts

@@ -1,0 +1,45 @@
+-- Inner: what the functions behind the two entry points ask of each other. No public contract cites this file.
+use mathlib.Core.List.{List}
+use Prim.Native.Nat.{ℕ, _≤_, _<_}
+use lib.IntN.{ℤ}
+use Rattle.fault.specs.declared.Refusal.{Refusal}
+use Rattle.fault.specs.declared.Fault.the-variants.{Layers, Strip}
+use Rattle.trace.specs.Points.{count}
+use Rattle.trace.specs.Pair.{at, Pair}
+use Rattle.strip.specs.Bytes.{IsStrip}
+use Rattle.stack.specs.declared.Stack.{Stack}
+use Rattle.stack.specs.declared.StackJudgement.{StackJudgement}
+use Rattle.stack.specs.declared.StackJudgement.the-variants as stack-is
+use Rattle.stack.specs.declared.StripsJudgement.{StripsJudgement}
+use Rattle.stack.specs.declared.StripsJudgement.the-variants as strips-are
+use Rattle.stack.specs.Entries.{entry, steps}
+use Rattle.stack.specs.Faults.{AcceptedStack}
+use Rattle.stack.specs.Strips.{StripsRight}
+use Rattle.stack.specs.Laid.{laid}
+
+-- two accepted traces and the bytes of a strip between them
+pub record Joined (a b : List ℤ) (l : List ℕ) : Type 0 where
+  pub pair : Pair a b
+  pub strip : IsStrip (count a) (count b) l
+
+-- an accepted stack with its strips, by its arrays
+pub record Fitted (st : Stack) (c : List ℤ) (l : List ℕ) : Type 0 where
+  pub stack : AcceptedStack (laid st) c
+  pub strips : StripsRight (laid st) l
+
+-- a stack whose triangles can be counted
+pub record Sized (st : Stack) : Type 0 where
+  pub some : 0 < st .layers
+  pub twenty : st .layers ≤ 20
+  pub three : (k : ℕ) → k < st .layers → 3 ≤ entry (laid st) k .count
+  pub many : (k : ℕ) → k < st .layers → entry (laid st) k .count ≤ 250
+  pub steps : steps (laid st) ≤ 9500
+
+-- the refusal that a judgement carries; where it carries none, nothing is refused
+abbrev pub stackRefusal : StackJudgement → Refusal
+stackRefusal (stack-is.Refused r) = r
+stackRefusal (stack-is.Fit points n) = at Layers 0
+
+abbrev pub stripsRefusal : StripsJudgement → Refusal
+stripsRefusal (strips-are.Refused r) = r
+stripsRefusal strips-are.Whole = at Strip 0

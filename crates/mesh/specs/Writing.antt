@@ -1,0 +1,60 @@
+-- Inner: what the writers of the closed list ask and do. No public contract cites this file.
+use mathlib.Core.Path.{_≡_}
+use mathlib.Core.List.{List, [], _∷_, _++_}
+use Prim.Native.Nat.{ℕ, suc, _+_, _*_, _≤_, _<_}
+use lib.ListN.{length, drop}
+use Rattle.ways.specs.Strip.{Step, A, B, stepsA, stepsB}
+use Rattle.stack.specs.declared.Layer.{Layer}
+use Rattle.stack.specs.declared.Stack.{Stack}
+use Rattle.stack.specs.Entries.{entry, stop}
+use Rattle.stack.specs.Strips.{StripsRight}
+use Rattle.stack.specs.Laid.{laid}
+use Rattle.mesh.specs.declared.writers.Pair.{Pair}
+use Rattle.mesh.specs.Triangles.{Tri}
+use Rattle.mesh.specs.Closed.{ring, stepOf, numbers}
+
+-- what every writer does: its triangles at the front, and the rest as it was
+pub record Filled (ts : List Tri) (old new : List ℕ) : Type 0 where
+  pub filled : new ≡ numbers ts ++ drop (3 * length ts) old
+
+abbrev pub tri : ℕ → ℕ → ℕ → Tri
+tri u v w = record { u = u; v = v; w = w }
+
+-- a layer with points, whose numbers fit 32 bits
+pub record Numbered (e : Layer) : Type 0 where
+  pub some : 0 < e .count
+  pub few : stop e ≤ 5000
+
+-- the triangle of a step from (i,j)
+abbrev pub stepTri : Layer → Layer → ℕ → ℕ → Step → Tri
+stepTri d e i j A = tri (ring d i) (ring d (suc i)) (ring e j)
+stepTri d e i j B = tri (ring d i) (ring e (suc j)) (ring e j)
+
+-- the triangles of the caps: "(P0, Pk+1, Pk)" and "(P0, Pk, Pk+1)"
+abbrev pub floorTri : Layer → ℕ → Tri
+floorTri e k = tri (ring e 0) (ring e (suc k)) (ring e k)
+
+abbrev pub roofTri : Layer → ℕ → Tri
+roofTri e k = tri (ring e 0) (ring e k) (ring e (suc k))
+
+-- a stack with its strips, of which the list can be written
+pub record Drawn (st : Stack) (l : List ℕ) : Type 0 where
+  pub some : 0 < st .layers
+  pub twenty : st .layers ≤ 20
+  pub numbered : (k : ℕ) → k < st .layers → Numbered (entry (laid st) k)
+  pub three : (k : ℕ) → k < st .layers → 3 ≤ entry (laid st) k .count
+  pub strips : StripsRight (laid st) l
+
+-- what a step from the pair p asks
+pub record StepReady (d e : Layer) (p : Pair) (byte : ℕ) (out : List ℕ) : Type 0 where
+  pub lower : Numbered d
+  pub upper : Numbered e
+  pub inA : p .i + stepsA (stepOf byte ∷ []) ≤ d .count
+  pub inB : p .j + stepsB (stepOf byte ∷ []) ≤ e .count
+  pub room : 3 ≤ length out
+
+-- and does, going on to the pair r
+pub record Stepped (d e : Layer) (p : Pair) (byte : ℕ) (old new : List ℕ) (r : Pair) : Type 0 where
+  pub triangle : Filled (stepTri d e (p .i) (p .j) (stepOf byte) ∷ []) old new
+  pub i : r .i ≡ p .i + stepsA (stepOf byte ∷ [])
+  pub j : r .j ≡ p .j + stepsB (stepOf byte ∷ [])
