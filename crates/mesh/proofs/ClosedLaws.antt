@@ -23,7 +23,7 @@ use Rattle.mesh.specs.Working.{Fitted}
 use Rattle.mesh.specs.Writing.{Filled, Numbered, Drawn}
 use Rattle.mesh.proofs.StepBytes.{steps-strip}
 use Rattle.mesh.proofs.Parts.{upper, part-end, part-is}
-use Rattle.mesh.proofs.WriteLaws.{Wrote, wrote-none, wrote-more, behind, behind-long, back, Fan, floor-fan, roof-fan}
+use Rattle.mesh.proofs.WriteLaws.{Wrote, wrote-none, wrote-more, behind, back, Fan, floor-fan, roof-fan}
 
 -- ---- how many
 
@@ -145,9 +145,6 @@ module _ {st : Stack} {l : List ℕ} (r : Drawn st l) {k at : ℕ} {old out : Li
   pub bands-behind : suc k < st .layers → 3 * at ≤ length out
   unfolding bandStart
   bands-behind h = omega (arith, bands-room h, s .start)
-
-  pub bands-ask : suc k < st .layers → 3 * bandStart (laid st) (suc k) ≤ 3 * at + length (behind (3 * at) out)
-  bands-ask h = omega (arith, bands-room h, behind-long (3 * at) out)
 
   pub bands-more : {next : ℕ} {part : List ℕ} → suc k < st .layers → next ≡ bandStart (laid st) (suc k)
       → Filled (bandOf (laid st) l k) (behind (3 * at) out) part → length part ≡ length (behind (3 * at) out)

@@ -44,7 +44,8 @@ mul-if1 c = omega (arith, c .triangle-count .ensures, triangles-few (sized-of (c
 returns-2 : tie.Need-returns-2
 returns-2 c =
     let first = c .before .before .before in
-    no-room (first .before .before .judge-stack .ensures) (first .judged .given .1) (c .before .triangle-count .ensures) (c .if1 .taken)
+    no-room (first .before .before .judge-stack .ensures) (first .judged .given .1) (c .before .triangle-count .ensures)
+    (omega (arith, c .if1 .taken))
 
 judge-strips-requires : tie.Need-judge-strips-requires
 judge-strips-requires c κs = search needs
@@ -65,7 +66,7 @@ returns-3 c = λ es g.
     let out = first .before .before .before .before .before .args .out .now in
     let a = stack-fit (first .before .before .judge-stack .ensures) (first .judged .given .1) es g in
     let judged = c .before .before .before .judge-strips .ensures in
-    answer.strips a (roomy out a g (test .before .triangle-count .ensures) (test .if1 .left))
+    answer.strips a (roomy out a g (test .before .triangle-count .ensures) (omega (arith, test .if1 .left)))
     (strips-refused judged (c .before .enum-told3 .given .1) (c .strips-refusal .ensures) es g a)
 
 -- so are the strips

@@ -2,8 +2,8 @@
 use mathlib.Core.Path.{_≡_, refl}
 use Prim.Native.Nat.{_*_, _-_, _≤_}
 use native.Mathlib.Omega.{arith}
-use lib.ListN.{length}
-use Rattle.mesh.proofs.ClosedLaws.{BandsSo, bands-begun, bands-behind, bands-ask, bands-more, bands-done}
+use lib.ListN.{length, length-take, length-drop}
+use Rattle.mesh.proofs.ClosedLaws.{BandsSo, bands-begun, bands-behind, bands-room, bands-more, bands-done}
 use Rattle.mesh.proofs.writers.put_bands.Statement.{statement}
 use Rattle.mesh.proofs.writers.put_bands.Tie as tie
 
@@ -33,10 +33,10 @@ mul-put-band-of : tie.Need-mul-put-band-of Inv-loop μ-loop
 mul-put-band-of c = omega (arith, room c, c .before .before .before .before .good)
 
 sub-put-band-of : tie.Need-sub-put-band-of Inv-loop μ-loop
-sub-put-band-of c = room c
+sub-put-band-of c = omega (arith, room c)
 
 part-put-band-of-start : tie.Need-part-put-band-of-start Inv-loop μ-loop
-part-put-band-of-start c = room c
+part-put-band-of-start c = omega (arith, room c)
 
 part-put-band-of-end : tie.Need-part-put-band-of-end Inv-loop μ-loop
 part-put-band-of-end c = omega arith
@@ -45,7 +45,8 @@ put-band-of-requires : tie.Need-put-band-of-requires Inv-loop μ-loop
 put-band-of-requires c κs =
     let s = c .before .before .before .before .before in
     let so = c .before .before .loop .inv .0 in
-    (s .pre .0, omega arith, so .start, bands-ask (s .pre .0) so (s .pre .1) (omega arith))
+    let room = bands-room (s .pre .0) so (s .pre .1) (omega arith) in
+    (s .pre .0, omega arith, so .start, simp (length-take, length-drop) (omega (arith, room)))
 
 add-k : tie.Need-add-k Inv-loop μ-loop
 add-k c = omega arith
