@@ -11,6 +11,7 @@ pub mod LayerLaws
 pub mod PairLaws
 pub mod LineLaws
 pub mod LengthLaws
+pub mod StripLines
 pub mod Exact
 pub mod RoundTrip
 pub mod Examples

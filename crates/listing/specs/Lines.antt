@@ -20,6 +20,11 @@ letter B = 66
 unfoldable pub stripLine : List Step → List ℕ
 stripLine s = map letter s ++ 10 ∷ []
 
+-- "a line each for the first 1,000 best strips"
+unfoldable pub stripLines : List (List Step) → List ℕ
+stripLines [] = []
+stripLines (s ∷ l) = stripLine s ++ stripLines l
+
 -- `end`, `more`, `refused`
 unfoldable pub endLine : List ℕ
 endLine = 101 ∷ 110 ∷ 100 ∷ 10 ∷ []

@@ -1,8 +1,8 @@
 -- What every writer does, and the steps that a strip's bytes say.
 use mathlib.Core.Path.{_≡_}
 use mathlib.Core.Bool.{cond}
-use mathlib.Core.List.{List, _++_, map}
-use Prim.Native.Nat.{ℕ, _+_, _≤_}
+use mathlib.Core.List.{List, [], _∷_, _++_, map}
+use Prim.Native.Nat.{ℕ, zero, suc, _+_, _≤_}
 use lib.Dec.{eqb}
 use lib.ListN.{length, take, drop}
 use Rattle.ways.specs.Strip.{Step, A, B}
@@ -23,3 +23,8 @@ stepOf b = cond (eqb b 0) A B
 
 abbrev pub stepsOf : List ℕ → List Step
 stepsOf l = map stepOf l
+
+-- the strips that stand one after the other in bytes, each of so many steps
+unfoldable pub stripsIn : ℕ → ℕ → List ℕ → List (List Step)
+stripsIn steps zero l = []
+stripsIn steps (suc k) l = stepsOf (take steps l) ∷ stripsIn steps k (drop steps l)

@@ -1,9 +1,11 @@
 // The lines, written into a lent list from a place on. Each writer answers the place behind what it wrote.
 ghost use mathlib.Core.Path.{_≡_};
+ghost use Prim.Native.Nat.{_*_, _≤_};
+ghost use lib.ListN.{length};
 ghost use mathlib.Core.List.{[], _∷_, map};
 ghost use Rattle.listing.specs.Numeral.{digitsOf, decimal};
-ghost use Rattle.listing.specs.Lines.{letter, valueLine, stripLine, endLine, moreLine, refusedLine};
-ghost use Rattle.listing.specs.Writing.{Room, Wrote, stepOf, stepsOf};
+ghost use Rattle.listing.specs.Lines.{letter, valueLine, stripLine, stripLines, endLine, moreLine, refusedLine};
+ghost use Rattle.listing.specs.Writing.{Room, Wrote, stepOf, stepsOf, stripsIn};
 
 fn put(out: &mut [u8], at: usize, byte: u8) -> usize
     requires { ⌜ Room (now out) at (byte ∷ []) ⌝ }
@@ -87,6 +89,29 @@ pub(crate) fn put_strip(out: &mut [u8], at: usize, strip: &[u8]) -> usize
 {
     let next = put_letters(out, at, strip);
     put(out, next, 10)
+}
+
+// A line for each of `count` strips of `steps` steps, which stand one after the other in `strips`.
+pub(crate) fn put_strips(
+    out: &mut [u8],
+    at: usize,
+    strips: &[u8],
+    count: usize,
+    steps: usize,
+) -> usize
+    requires { ⌜ (count * steps ≤ length (now strips)) × Room (now out) at (stripLines (stripsIn steps count (now strips))) ⌝ }
+    ensures { λ r. ⌜ Wrote (now (out .entry)) at (stripLines (stripsIn steps count (now (strips .entry)))) (now (out .exit)) r ⌝ }
+{
+    let mut next = at;
+    let mut from = 0;
+    let mut k = 0;
+    while k < count {
+        let end = from + steps;
+        next = put_strip(out, next, &strips[from..end]);
+        from = end;
+        k += 1;
+    }
+    next
 }
 
 pub(crate) fn put_end(out: &mut [u8], at: usize) -> usize
