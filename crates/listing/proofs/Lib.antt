@@ -12,6 +12,7 @@ pub mod PairLaws
 pub mod LineLaws
 pub mod LengthLaws
 pub mod StripLines
+pub mod PlaneLaws
 pub mod Exact
 pub mod RoundTrip
 pub mod Examples

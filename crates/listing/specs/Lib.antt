@@ -8,3 +8,4 @@ pub mod Answer
 pub mod Writing
 pub mod Scan
 pub mod Filling
+pub mod Pairs

@@ -2,4 +2,5 @@
 mod asked;
 mod lines;
 mod numeral;
+mod pair;
 mod words;

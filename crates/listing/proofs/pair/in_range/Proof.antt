@@ -1,0 +1,16 @@
+-- `listing::pair::in_range` meets its contract: the two tests of an i32 are the tests of the number that it holds. Assumes nothing.
+use mathlib.Core.Path.{ap}
+use mir.Syntax.{w32}
+use mir.ValLaws.{toZ-ofZ}
+use Rattle.trace.specs.Judged.{inRange}
+use Rattle.listing.proofs.pair.in_range.Statement.{statement}
+use Rattle.listing.proofs.pair.in_range.Tie as tie
+use Rattle.listing.proofs.pair.in_range.Reads as reads
+use Rattle.listing.proofs.pair.in_range.Lts as lts
+
+returns : tie.Need-returns
+unfolding inRange
+returns c = ap inRange (toZ-ofZ w32 (c .args .plane) (c .fits .plane))
+
+pub in-range-spec : {M : Type 1} → statement M
+in-range-spec = tie.close (tie.spec returns)
