@@ -21,6 +21,7 @@ use Rattle.ways.proofs.Runs.{Chain, one, more, chain-onward, onward-head, onwar
 use Rattle.strip.specs.Worth.{W, worths}
 use Rattle.strip.specs.Bytes.{bytes}
 use Rattle.strip.proofs.BytesLaws.{bytes-injective, bytes-length}
+use Rattle.strip.specs.declared.Valued.{Valued}
 use Rattle.strip.specs.declared.Valued.the-variants.{Value}
 use Rattle.joining.specs.declared.Followed.{Followed}
 use Rattle.joining.specs.declared.Followed.the-variants.{Next, NoneLeft}
@@ -120,6 +121,13 @@ module _ (a b : List ℤ) where
       let listed = onward-listed c (head .0) (subst (Onward (Between a b) (W a b) (c .final)) (head .1) (on .1)) in
       let k = listed-ends (λ t. strip-length) listed in
       omega (arith, ap length (c .all), length-map (c .strips) bytes, length-append (c .strips) (head .0))
+
+  -- They begin: two accepted traces with room have a first best strip.
+  pub calls-begin : {strip work strip′ work′ : List ℕ} {r : Valued} → Pair a b → Enough a b strip work
+      → BestAnswer a b strip work strip′ work′ r → (v : ℤ) × (r ≡ Value v)
+  calls-begin q room (Answers.BestAnswer.pair p u) = absurd (refused-not-pair p q)
+  calls-begin q room (Answers.BestAnswer.room p n u) = absurd (n room)
+  calls-begin q room (best p e s f g c) = (W a b s, refl)
 
   -- None of them is refused while there is room.
   pub calls-go-on : {l : List (List ℕ)} {last strip work strip′ work′ : List ℕ} {r : Followed} → Going a b l last → shown a b strip ≡ last
