@@ -1,6 +1,6 @@
 -- The whole lists of best strips of a small pair, by evaluation: the next strip is turned at the earliest step A into a pair that B
 -- reaches as well (`ways`), and a test finds that no step before it is such a one. Assumes nothing.
-use mathlib.Core.Path.{_≡_, refl, sym, subst}
+use mathlib.Core.Path.{_≡_, refl, subst}
 use mathlib.Core.Bool.{Bool, true, false, not, _&&_}
 use mathlib.Core.List.{List, [], _∷_, _++_}
 use Prim.Native.Nat.{ℕ, zero, suc, pred, _<_}

@@ -1,12 +1,12 @@
 -- Every row of the table holds, by evaluation of the very definitions that the contracts cite. For the best strips (12)'s index of the
 -- last pair is evaluated, which `ways` shows to be the greatest value; for the first ones rule (13)'s trace. Assumes nothing.
-use mathlib.Core.Path.{_≡_, refl, sym, ap, _∙_, subst}
+use mathlib.Core.Path.{_≡_, refl, sym, _∙_, subst}
 use mathlib.Core.List.{List, [], _∷_, _++_}
 use Prim.Native.Nat.{ℕ, _+_, _*_, _≤_}
 use native.Mathlib.Omega.{arith}
-use lib.IntN.{ℤ, pos, _*ℤ_}
+use lib.IntN.{ℤ, pos}
 use lib.ListN.{length, take, replicate}
-use lib.Signed.{_≤ℤ_, _<ℤ_}
+use lib.Signed.{_≤ℤ_}
 use Rattle.whole.proofs.Order.{ltZ-true}
 use Rattle.whole.specs.Sum.{sum}
 use Rattle.whole.specs.Tests.{some, eqZ}
@@ -18,7 +18,7 @@ use Rattle.trace.specs.Pair.{Pair, at}
 use Rattle.trace.proofs.Exact.{fit-exactly}
 use Rattle.ways.specs.Strip.{Step, A, B, stepsA, stepsB}
 use Rattle.ways.specs.Strip as Ways
-use Rattle.ways.specs.Value.{valueFrom, value}
+use Rattle.ways.specs.Value.{valueFrom}
 use Rattle.ways.specs.Best.{Best, FirstBest, Onward, end, on, Listed}
 use Rattle.ways.specs.Keppel.{top, pointer, alsoB, trace, traced, maxℤ}
 use Rattle.ways.proofs.Answers.{nothing-greater, first-is-rule-13}
@@ -30,7 +30,7 @@ use Rattle.joining.specs.declared.Followed.the-variants as Followed
 use Rattle.joining.specs.Answers.{Enough, HandedIn, NextAnswer, below, noneLeft}
 use Rattle.strip.proofs.BytesLaws.{numbers-exactly}
 use Rattle.cases.proofs.Lists.{clear, turned-next, none-next}
-use Rattle.cases.specs.Table.{Row, judging, offering, best, first, Holds, AllHold, none, and, T, later, repeated, turned, flat, eight, others, eightStrips, fourStrips, lists, list, asking, rows}
+use Rattle.cases.specs.Table.{Row, offering, best, first, AllHold, none, and, T, later, repeated, turned, flat, eight, others, eightStrips, fourStrips, lists, rows}
 
 -- ---- the traces
 

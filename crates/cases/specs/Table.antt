@@ -1,7 +1,6 @@
 -- 01, "Cases to be proved together": "One table with one theorem over it holds the rows marked *." The theorem is `proofs/Rows.antt`.
 use mathlib.Core.Path.{_≡_}
 use mathlib.Core.List.{List, [], _∷_, _++_}
-use Prim.Native.Nat.{ℕ}
 use lib.IntN.{ℤ, pos}
 use lib.ListN.{replicate}
 use Rattle.fault.specs.declared.Fault.the-variants.{Twin, Turn, Strip, Below}

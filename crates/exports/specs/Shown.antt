@@ -1,6 +1,5 @@
 -- 01, "What comes back": an answer as number, place and what was found. 0 is success, 100 none left.
-use mathlib.Core.Bool.{Bool, false}
-use Prim.Native.Nat.{ℕ}
+use mathlib.Core.Bool.{false}
 use lib.IntN.{ℤ, pos}
 use Rattle.fault.specs.declared.Refusal.{Refusal}
 use Rattle.fault.specs.Number.{numberOf, noneLeft}

@@ -1,14 +1,13 @@
 -- Walking back along the marks. The invariant is one equation: what is still to be put at the front, put into the present slice, is
 -- what all of it put into the slice at the start. Assumes nothing.
 use mathlib.Core.Path.{_≡_, refl, sym, ap, ap₂, _∙_, subst}
-use mathlib.Core.Bool.{Bool, true, false}
+use mathlib.Core.Bool.{true, false}
 use mathlib.Core.List.{List, [], _∷_, _++_, append-assoc, map-append}
-use Prim.Native.Nat.{ℕ, zero, suc, pred, _+_, _*_, _≤_, _<_}
+use Prim.Native.Nat.{ℕ, zero, suc, pred, _+_, _≤_, _<_}
 use native.Mathlib.Numerals.{add-one}
 use native.Mathlib.Nat.{mul-le-mul-right}
-use native.Mathlib.Decide.{ℕ-discrete}
 use native.Mathlib.Omega.{arith}
-use lib.ListN.{length, drop, set, getD, length-set}
+use lib.ListN.{length, drop, set, length-set}
 use lib.Seq.{drop-cons, getD-set-same, drop-set-lt}
 use Rattle.ways.specs.Strip.{Step, A, B}
 use Rattle.ways.specs.Keppel.{trace}
@@ -16,7 +15,6 @@ use Rattle.ways.proofs.Traced.{trace-A, trace-B}
 use Rattle.whole.proofs.TestLaws.{true≢false}
 use Rattle.strip.specs.Bytes.{bytes, byteOf}
 use Rattle.joining.specs.declared.walking.Back.{Back}
-use Rattle.joining.specs.Cells.{room}
 use Rattle.joining.specs.Table.{cellAt}
 use Rattle.joining.specs.Walking.{saysA, Leads, BackFrom, byA, byB}
 use Rattle.joining.proofs.CellLaws.{room-fits}

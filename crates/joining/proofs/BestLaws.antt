@@ -1,5 +1,5 @@
 -- `best`, from what its parts have done: the marks lead back the strip of 001's rule (13), which is the first best one. Assumes nothing.
-use mathlib.Core.Path.{_≡_, refl, sym, ap, _∙_, subst, subst₂}
+use mathlib.Core.Path.{_≡_, sym, ap, _∙_, subst, subst₂}
 use mathlib.Core.List.{List, _++_}
 use Prim.Native.Nat.{ℕ, _+_, _*_, _≤_, _<_}
 use native.Mathlib.Omega.{arith}
@@ -9,7 +9,7 @@ use Rattle.trace.specs.Points.{count}
 use Rattle.trace.specs.Pair.{at}
 use Rattle.trace.proofs.PairLaws.{PairCounts}
 use Rattle.ways.specs.Strip.{Step}
-use Rattle.ways.specs.Keppel.{top, pointer, trace, traced}
+use Rattle.ways.specs.Keppel.{trace, traced}
 use Rattle.ways.proofs.Greatest.{attained}
 use Rattle.ways.proofs.Traced.{traced-first}
 use Rattle.strip.specs.Worth.{worths, W}
@@ -20,7 +20,7 @@ use Rattle.fault.specs.declared.Fault.the-variants.{Room}
 use Rattle.joining.specs.Cells.{room}
 use Rattle.joining.specs.Table.{Filled}
 use Rattle.joining.specs.Walking.{saysA}
-use Rattle.joining.specs.Answers.{Enough, stripBytes, workBytes, BestAnswer, best}
+use Rattle.joining.specs.Answers.{Enough, workBytes, BestAnswer, best}
 use Rattle.joining.proofs.CellLaws.{room-all}
 use Rattle.joining.proofs.MarkLaws.{filled-trace}
 

@@ -14,7 +14,7 @@ use Rattle.whole.proofs.Order.{clash}
 use Rattle.trace.proofs.PairLaws.{refused-not-pair}
 use Rattle.trace.specs.Pair.{Pair}
 use Rattle.ways.specs.Strip.{Step}
-use Rattle.ways.specs.Best.{Best, Onward, end, Listed}
+use Rattle.ways.specs.Best.{Onward, end, Listed}
 use Rattle.ways.proofs.Greatest.{strip-length}
 use Rattle.ways.proofs.Complete.{Rising, listed-all, listed-best, listed-order, listed-once, listed-ends}
 use Rattle.ways.proofs.Runs.{Chain, one, more, chain-onward, onward-head, onward-exists}

@@ -11,10 +11,8 @@ use lib.Seq.{take-at}
 use lib.Signed.{_<ℤ_}
 use Rattle.whole.proofs.Order.{clash}
 use Rattle.fault.specs.declared.Refusal.{Refusal}
-use Rattle.trace.specs.Pair.{Pair, PairRefused}
 use Rattle.trace.proofs.PairLaws.{pair-refused-unique, refused-not-pair}
 use Rattle.ways.specs.Strip.{Step}
-use Rattle.ways.specs.Best.{Best}
 use Rattle.ways.proofs.Unique.{first-unique, next-unique, next-or-none-not-both, best-same, listed-unique}
 use Rattle.strip.specs.Worth.{W}
 use Rattle.strip.specs.Bytes.{bytes}

@@ -12,11 +12,11 @@ use mir.Val.{toZ, ofZ}
 use Rattle.whole.specs.Between.{Within}
 use Rattle.whole.proofs.Machine.{held, from}
 use Rattle.strip.proofs.ValueLaws.{W-within}
-use Rattle.whole.proofs.Order.{ltZ-true, ltZ-false, ≤ℤ-antisym, ≤ℤ-<ℤ-trans, ≡→≤ℤ}
+use Rattle.whole.proofs.Order.{ltZ-true, ltZ-false, ≤ℤ-antisym}
 use Rattle.fault.specs.declared.Fault.the-variants.{Below}
 use Rattle.fault.specs.declared.Refusal.{Refusal}
 use Rattle.trace.specs.Points.{count}
-use Rattle.trace.specs.Pair.{at, Pair, PairRefused}
+use Rattle.trace.specs.Pair.{at}
 use Rattle.trace.proofs.PairLaws.{PairCounts, refused-not-pair}
 use Rattle.ways.specs.Strip.{Step, B, stepsA, stepsB, Strip}
 use Rattle.ways.specs.Best.{Best}
@@ -34,9 +34,8 @@ use Rattle.joining.specs.declared.Followed.the-variants.{Next, NoneLeft,
 use Rattle.joining.specs.Cells.{room}
 use Rattle.joining.specs.Table.{Filled}
 use Rattle.joining.specs.Walking.{saysA, Turned, turned, left}
-use Rattle.joining.specs.Answers.{Enough, HandedIn, workBytes, stripBytes, Untouched, NextAnswer}
+use Rattle.joining.specs.Answers.{Enough, HandedIn, workBytes, NextAnswer}
 use Rattle.joining.specs.Answers as Answers
-use Rattle.joining.proofs.BestLaws.{enough}
 use Rattle.joining.proofs.CellLaws.{room-all}
 use Rattle.joining.proofs.NextLaws.{turned-next, left-none}
 

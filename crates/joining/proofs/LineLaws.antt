@@ -1,17 +1,17 @@
 -- Lines one after the other: copying a line behind itself, and what a run of lines is. Assumes nothing.
-use mathlib.Core.Path.{_≡_, refl, sym, ap, ap₂, _∙_, subst}
-use mathlib.Core.List.{List, [], _∷_, _++_, append-assoc}
-use mathlib.Core.Bool.{Bool, true, false}
-use Prim.Native.Nat.{ℕ, zero, suc, pred, _+_, _*_, _-_, _≤_, _<_}
+use mathlib.Core.Path.{_≡_, sym, ap, ap₂, _∙_}
+use mathlib.Core.List.{List, _∷_, _++_, append-assoc}
+use mathlib.Core.Bool.{true}
+use Prim.Native.Nat.{ℕ, suc, pred, _+_, _-_, _≤_, _<_}
 use native.Mathlib.Numerals.{add-one}
 use native.Mathlib.Omega.{arith}
-use lib.ListN.{length, getD, take, drop, set, length-take, length-append, List·getD-append}
+use lib.ListN.{length, getD, take, drop, set, List·getD-append}
 use lib.Seq.{paste, paste-suc, getD-take, length-take-le, take-at, drop-at}
-use Rattle.ways.specs.Strip.{Step, A, B, stepsA, stepsB, Strip}
+use Rattle.ways.specs.Strip.{B, stepsA, stepsB}
 use Rattle.ways.specs.Keppel.{trace}
 use Rattle.ways.proofs.Greatest.{strip-length}
 use Rattle.strip.specs.Bytes.{bytes, IsStrip}
-use Rattle.joining.specs.Walking.{saysA, saysB, Turned, turned, Added, added}
+use Rattle.joining.specs.Walking.{saysA, Turned, turned, Added, added}
 use Rattle.joining.proofs.NextLaws.{IsTurn, TurnInside, turned-is}
 
 -- what stands before the place of a copy is as it was

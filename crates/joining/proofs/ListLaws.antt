@@ -1,6 +1,6 @@
 -- `list_best`, from what its parts have done. Assumes nothing.
-use mathlib.Core.Path.{_≡_, refl, sym, ap, ap₂, _∙_, subst, subst₂}
-use mathlib.Core.Bool.{Bool, true, false}
+use mathlib.Core.Path.{_≡_, sym, _∙_, subst, subst₂}
+use mathlib.Core.Bool.{Bool}
 use mathlib.Core.List.{List, _++_}
 use Prim.Native.Nat.{ℕ, _+_, _*_, _/_, _≤_, _<_}
 use native.Mathlib.Nat.{div-lt-iff-lt-mul}
@@ -9,7 +9,6 @@ use lib.IntN.{ℤ}
 use lib.ListN.{length, drop, replicate}
 use Rattle.fault.specs.declared.Refusal.{Refusal}
 use Rattle.trace.specs.Points.{count}
-use Rattle.trace.specs.Pair.{Pair}
 use Rattle.trace.proofs.PairLaws.{PairCounts}
 use Rattle.ways.specs.Strip.{Step}
 use Rattle.ways.specs.Keppel.{traced}

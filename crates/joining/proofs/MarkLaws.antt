@@ -1,19 +1,19 @@
 -- What the marks of a filled table say, and so where they lead: the strip that 001's rule (13) traces. Assumes nothing.
-use mathlib.Core.Path.{_≡_, refl, sym, ap, _∙_, subst}
+use mathlib.Core.Path.{_≡_, refl, ap, _∙_}
 use mathlib.Core.Bool.{Bool, true, false}
 use mathlib.Core.List.{List}
-use Prim.Native.Nat.{ℕ, zero, suc, _+_, _*_, _/_, _%_, _≤_, _<_}
+use Prim.Native.Nat.{ℕ, _+_, _*_, _/_, _%_, _≤_}
 use native.Mathlib.Omega.{arith}
 use lib.Dec.{eqb}
 use lib.IntN.{ℤ}
 use lib.ListN.{length}
 use mir.Val.{boolByte}
 use Rattle.ways.specs.Value.{Worths}
-use Rattle.ways.specs.Keppel.{pointer, alsoB, trace, traced}
+use Rattle.ways.specs.Keppel.{pointer, alsoB, trace}
 use Rattle.ways.proofs.TopLaws.{pointer-first, pointer-left}
 use Rattle.ways.proofs.Traced.{trace-cong}
-use Rattle.joining.specs.Cells.{cellOf, room}
-use Rattle.joining.specs.Table.{markOf, cellAt, Filled}
+use Rattle.joining.specs.Cells.{room}
+use Rattle.joining.specs.Table.{markOf, Filled}
 use Rattle.joining.specs.Walking.{saysA, saysB, Leads}
 use Rattle.joining.proofs.CellLaws.{room-fits}
 

@@ -1,22 +1,19 @@
 -- Turning a best strip into the next one, and `next` from what its parts have done. Assumes nothing.
-use mathlib.Core.Path.{_≡_, refl, sym, ap, ap₂, _∙_, subst, subst₂}
-use mathlib.Core.Bool.{Bool, true, false}
-use mathlib.Core.List.{List, [], _∷_, _++_, append-assoc, map-append}
+use mathlib.Core.Path.{_≡_, sym, ap, ap₂, _∙_, subst}
+use mathlib.Core.Bool.{true, false}
+use mathlib.Core.List.{List, _∷_, _++_, append-assoc, map-append}
 use Prim.Native.Nat.{ℕ, zero, suc, pred, _+_, _*_, _-_, _≤_, _<_}
 use native.Mathlib.Omega.{arith}
 use lib.IntN.{ℤ}
-use lib.ListN.{length, take, drop, set, replicate, length-append, take-append-drop}
+use lib.ListN.{length, take, drop, set, length-append, take-append-drop}
 use lib.Seq.{set-at, drop-at}
-use lib.Signed.{_<ℤ_}
 use Rattle.whole.proofs.TestLaws.{true≢false}
-use Rattle.trace.specs.Points.{count}
-use Rattle.trace.proofs.PairLaws.{PairCounts}
 use Rattle.ways.specs.Strip.{Step, A, B, stepsA, stepsB, Strip}
 use Rattle.ways.specs.Value.{Worths}
-use Rattle.ways.specs.Keppel.{pointer, alsoB, trace}
+use Rattle.ways.specs.Keppel.{alsoB, trace}
 use Rattle.ways.specs.Best.{Best, NextBest, NoneLeft}
 use Rattle.ways.specs.Value.{value}
-use Rattle.ways.proofs.Way.{steps-append, steps-length}
+use Rattle.ways.proofs.Way.{steps-length}
 use Rattle.ways.proofs.Greatest.{strip-length}
 use Rattle.ways.proofs.Traced.{next-by-turn, none-by-turn}
 use Rattle.ways.proofs.TopLaws.{alsoB-left}
@@ -25,10 +22,9 @@ use Rattle.strip.proofs.BytesLaws.{bytes-length}
 use Rattle.joining.specs.declared.walking.Turning.{Turning}
 use Rattle.joining.specs.declared.walking.Turning.the-variants.{Turn, Nowhere}
 use Rattle.joining.specs.Cells.{room}
-use Rattle.joining.specs.Table.{Filled, cellAt}
-use Rattle.joining.specs.Walking.{saysA, saysB, Leads, TurnOf, turn, nowhere, Marked, Turned, turned, left}
-use Rattle.joining.proofs.BackLaws.{leads-back}
-use Rattle.joining.proofs.MarkLaws.{says-a, says-b, filled-leads, filled-trace}
+use Rattle.joining.specs.Table.{Filled}
+use Rattle.joining.specs.Walking.{saysA, saysB, TurnOf, turn, nowhere, Marked, Turned, turned}
+use Rattle.joining.proofs.MarkLaws.{says-b, filled-leads, filled-trace}
 use Rattle.joining.proofs.TurnLaws.{counts-a}
 
 -- ---- where to turn, as the code has it

@@ -7,7 +7,7 @@ use native.Mathlib.Omega.{arith}
 use lib.IntN.{ℤ, pos, _-ℤ_, _*ℤ_}
 use lib.ListN.{length, getD}
 use Rattle.whole.specs.Between.{Within}
-use Rattle.whole.proofs.Bounds.{between-sub, between-wider, zero-within}
+use Rattle.whole.proofs.Bounds.{between-sub, zero-within}
 use Rattle.trace.specs.Points.{count, px, py}
 use Rattle.trace.specs.Faults.{Accepted}
 use Rattle.trace.proofs.PointLaws.{px-at, py-at, px-round, py-round, accepted-x, accepted-y}

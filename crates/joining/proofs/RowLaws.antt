@@ -3,7 +3,7 @@
 use mathlib.Core.Path.{_≡_, refl, sym, ap, ap₂, _∙_, subst}
 use mathlib.Core.Bool.{Bool, true, false}
 use mathlib.Core.List.{List}
-use Prim.Native.Nat.{ℕ, zero, suc, _+_, _*_, _≤_, _<_}
+use Prim.Native.Nat.{ℕ, _+_, _*_, _≤_, _<_}
 use native.Mathlib.Decide.{ℕ-discrete}
 use native.Mathlib.Nat.{mul-le-mul}
 use native.Mathlib.Omega.{arith}
@@ -18,7 +18,7 @@ use Rattle.ways.specs.Keppel.{top, pointer, alsoB, maxℤ}
 use Rattle.ways.proofs.TopLaws.{top-left, top-cell, pointer-cell, alsoB-cell, pointer-left, alsoB-left, top-within}
 use Rattle.joining.specs.Cells.{cellOf, room, Put}
 use Rattle.joining.proofs.CellLaws.{room-fits}
-use Rattle.joining.specs.Table.{Outline, worthsOf, Bounded, markOf, cellAt, CellReady, CellDone, RowAt, RowMarked, Ready}
+use Rattle.joining.specs.Table.{Outline, worthsOf, Bounded, markOf, CellReady, CellDone, RowAt, RowMarked, Ready}
 
 -- ---- the table's values are far inside an i64
 

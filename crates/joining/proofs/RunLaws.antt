@@ -7,9 +7,9 @@ use Prim.Native.Nat.{ℕ, zero, suc, pred, _+_, _*_, _≤_, _<_}
 use native.Mathlib.Omega.{arith}
 use native.Mathlib.Nat.{mul-le-mul-right, zero-mul}
 use lib.IntN.{ℤ}
-use lib.ListN.{length, take, drop, length-append, length-drop}
-use lib.Seq.{take-at, drop-at, drop-drop, drop-append-add}
-use Rattle.ways.specs.Strip.{Step, A, B, stepsA, stepsB, Strip}
+use lib.ListN.{length, take, drop, length-append}
+use lib.Seq.{take-at, drop-at, drop-drop}
+use Rattle.ways.specs.Strip.{Step, B, stepsA, stepsB, Strip}
 use Rattle.ways.specs.Value.{Worths, value}
 use Rattle.ways.specs.Keppel.{trace, traced}
 use Rattle.ways.specs.Best.{Best, NextBest, NoneLeft, Onward, end, on, Listed}
@@ -18,11 +18,10 @@ use Rattle.ways.proofs.Traced.{traced-first}
 use Rattle.ways.proofs.Runs.{Chain, one, more, chain-onward, onward-head, onward-exists, list-exists}
 use Rattle.strip.specs.Bytes.{bytes, IsStrip}
 use Rattle.strip.proofs.BytesLaws.{bytes-length}
-use Rattle.joining.specs.declared.lines.Counted.{Counted}
 use Rattle.joining.specs.Table.{Filled}
-use Rattle.joining.specs.Walking.{saysA, saysB, Added, added, stopped, CanTurn, can, cannot}
+use Rattle.joining.specs.Walking.{saysA, Added, added, stopped, CanTurn, can, cannot}
 use Rattle.joining.specs.Listing.{lined}
-use Rattle.joining.specs.Lines.{IsFilled, BeginningOf, all, some, WroteLines}
+use Rattle.joining.specs.Lines.{BeginningOf, all, some, WroteLines}
 use Rattle.joining.proofs.MarkLaws.{filled-trace}
 use Rattle.joining.proofs.NextLaws.{turned-next, left-none}
 

@@ -6,18 +6,17 @@ use mathlib.Core.List.{List, []}
 use Prim.Native.Nat.{ℕ, zero, suc, _+_, _*_, _≤_, _<_}
 use native.Mathlib.Decide.{ℕ-discrete}
 use native.Mathlib.Nat.{mul-le-mul-right}
-use native.Mathlib.Numerals.{add-one}
 use native.Mathlib.Omega.{arith}
 use lib.IntN.{ℤ, pos, _+ℤ_}
 use lib.ListN.{length, getD, drop, set, length-set}
 use lib.Seq.{getD-set-same, getD-set-other}
 use Rattle.whole.specs.Between.{Within}
-use Rattle.whole.proofs.Bounds.{between-wider, zero-within}
+use Rattle.whole.proofs.Bounds.{zero-within}
 use Rattle.ways.specs.Value.{Worths}
 use Rattle.ways.specs.Keppel.{top, pointer, alsoB}
 use Rattle.ways.proofs.TopLaws.{Agree, top-agree, top-origin, top-first, pointer-first, alsoB-left, alsoB-first}
 use Rattle.joining.specs.Cells.{cellOf, room, Put}
-use Rattle.joining.specs.Table.{Outline, outline, worthsOf, Bounded, markOf, cellAt, BorderReady, BorderDone, RowAt, RowMarked, Ready, Filled}
+use Rattle.joining.specs.Table.{Outline, outline, worthsOf, markOf, cellAt, BorderReady, BorderDone, RowAt, RowMarked, Ready, Filled}
 use Rattle.joining.proofs.CellLaws.{room-fits}
 use Rattle.joining.proofs.RowLaws.{values-within, mark-cell}
 

@@ -1,9 +1,9 @@
 -- Looking along a strip for the earliest step that can be turned: up to step k none can, and the pair reached counts the steps so
 -- far. Assumes nothing.
 use mathlib.Core.Path.{_≡_, refl, sym, ap, ap₂, _∙_, subst}
-use mathlib.Core.Bool.{Bool, true, false}
+use mathlib.Core.Bool.{true, false}
 use mathlib.Core.List.{List, [], _∷_, _++_, append-assoc, map-append}
-use Prim.Native.Nat.{ℕ, zero, suc, _+_, _*_, _≤_, _<_}
+use Prim.Native.Nat.{ℕ, suc, _+_, _≤_, _<_}
 use native.Mathlib.Decide.{ℕ-discrete}
 use native.Mathlib.Nat.{mul-le-mul-right}
 use native.Mathlib.Numerals.{add-one}
@@ -17,7 +17,6 @@ use Rattle.ways.proofs.Greatest.{strip-length}
 use Rattle.strip.specs.Bytes.{bytes, byteOf, IsStrip}
 use Rattle.strip.proofs.BytesLaws.{bytes-length}
 use Rattle.joining.specs.declared.walking.Look.{Look}
-use Rattle.joining.specs.declared.walking.Turning.{Turning}
 use Rattle.joining.specs.declared.walking.Turning.the-variants.{Turn, Nowhere}
 use Rattle.joining.specs.Cells.{room}
 use Rattle.joining.specs.Table.{cellAt}

@@ -4,7 +4,6 @@ use mathlib.Core.List.{List}
 use Prim.Native.Nat.{ℕ, _+_, _*_, _≤_, _<_}
 use lib.ListN.{length, getD}
 use lib.IntN.{ℤ, pos, _-ℤ_}
-use Rattle.whole.specs.Between.{Within}
 
 -- the first m numbers of a coordinate (offset 0: x, 1: y), the first of them again, zeros
 pub record Wrapped (c : List ℤ) (m offset : ℕ) (r : List ℤ) : Type 0 where

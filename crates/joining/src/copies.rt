@@ -1,6 +1,5 @@
 // Local wrapped copies of a trace's points and segments, so that the table's loops have no remainder: the first point stands again
 // at the end. Another start, a shift or a sign would change these copies and nothing else.
-ghost use mathlib.Core.Path.{_≡_};
 ghost use Prim.Native.Nat.{ℕ, _+_, _*_, _≤_, _<_};
 ghost use lib.IntN.{pos};
 ghost use lib.ListN.{length, getD};

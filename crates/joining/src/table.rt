@@ -2,11 +2,11 @@
 //
 // A's point and segment are read once a row; B's are read from the wrapped copies. The step A into (i+1, j) is the cross of B's
 // point j and A's segment i, the step B into (i, j+1) that of A's point i and B's segment j.
-ghost use Prim.Native.Nat.{_+_, _*_, _≤_, _<_};
+ghost use Prim.Native.Nat.{_+_, _*_, _<_};
 ghost use mathlib.Core.Path.{_≡_};
 ghost use mathlib.Core.List.{[]};
 ghost use lib.ListN.{length};
-ghost use Rattle.joining.specs.Table.{outline, worthsOf, cellAt, CellReady, CellDone, BorderReady, BorderDone, RowAt, RowMarked, Ready, Filled};
+ghost use Rattle.joining.specs.Table.{outline, worthsOf, CellReady, CellDone, BorderReady, BorderDone, RowAt, RowMarked, Ready, Filled};
 use crate::choice::choose;
 use crate::choice::via;
 use crate::marks::put_mark;

@@ -7,7 +7,7 @@ ghost use Rattle.ways.specs.Keppel.{trace};
 ghost use Rattle.strip.specs.Bytes.{bytes, IsStrip};
 ghost use Rattle.joining.specs.Cells.{room};
 ghost use Rattle.joining.specs.Table.{cellAt};
-ghost use Rattle.joining.specs.Walking.{saysA, saysB, Leads, BackFrom, TurnOf, Looked, LookReady};
+ghost use Rattle.joining.specs.Walking.{saysA, Leads, BackFrom, TurnOf, Looked, LookReady};
 use crate::marks::mark_at;
 
 // A pair, and the byte of the step that leads on from it.

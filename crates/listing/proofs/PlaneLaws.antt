@@ -1,9 +1,9 @@
 -- A trace as it was read, judged: over 250 points are MANY by their number alone, else all of it stands in the list. And the two planes,
 -- from tests to 01's words. Assumes nothing.
 use mathlib.Core.Path.{_≡_, sym, ap, _∙_}
-use mathlib.Core.Bool.{Bool, true, false}
+use mathlib.Core.Bool.{true, false}
 use mathlib.Core.List.{List}
-use Prim.Native.Nat.{ℕ, _*_, _/_, _%_, _≤_, _<_}
+use Prim.Native.Nat.{ℕ, _*_, _≤_, _<_}
 use native.Mathlib.Omega.{arith}
 use lib.IntN.{ℤ}
 use lib.ListN.{length, take}
@@ -14,11 +14,11 @@ use Rattle.fault.specs.declared.Fault.the-variants.{Many}
 use Rattle.trace.specs.declared.Judgement.{Judgement}
 use Rattle.trace.specs.declared.Judgement.the-variants.{Unfit}
 use Rattle.trace.specs.Points.{count}
-use Rattle.trace.specs.Faults.{IsShape, IsFew, IsMany}
+use Rattle.trace.specs.Faults.{IsShape, IsFew}
 use Rattle.trace.specs.Judged.{inRange, judged}
 use Rattle.trace.proofs.Exact.{many-exactly}
 use Rattle.trace.proofs.PointLaws.{range-within, within-range}
-use Rattle.listing.specs.Pairs.{Held, PlanesWrong, low, high, fall, PlanesRise, PlanesAnswer, wrong, rise}
+use Rattle.listing.specs.Pairs.{Held, low, high, fall, PlanesAnswer, wrong, rise}
 use Rattle.listing.specs.declared.pair.Planes.the-variants.{Rise, Wrong}
 
 -- ---- a trace

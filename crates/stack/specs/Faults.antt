@@ -1,7 +1,7 @@
 -- 01, "What comes back", for a stack: LAYERS, SHAPE, SPAN, trace by trace 2 to 6, PLANES, each at the lowest place at fault.
 use mathlib.Core.Path.{_≡_}
 use mathlib.Core.List.{List}
-use Prim.Native.Nat.{ℕ, suc, _+_, _/_, _%_, _≤_, _<_}
+use Prim.Native.Nat.{ℕ, suc, _/_, _%_, _≤_, _<_}
 use lib.ListN.{length}
 use lib.IntN.{ℤ}
 use lib.Signed.{_≤ℤ_}

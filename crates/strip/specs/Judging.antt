@@ -1,6 +1,5 @@
 -- 01, demand 2: "A strip offered by anyone is accepted exactly if it is one, with its true value." "A strip offered for judging ..
 -- fill[s its] slice exactly; any other length is STRIP at place 0."
-use mathlib.Core.Path.{_≡_}
 use mathlib.Core.List.{List}
 use Prim.Native.Nat.{ℕ}
 use lib.IntN.{ℤ}

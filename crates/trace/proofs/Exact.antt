@@ -10,8 +10,8 @@ use native.Mathlib.Omega.{arith}
 use lib.Dec.{eqb, ltb}
 use lib.IntN.{ℤ, pos}
 use lib.ListN.{length, getD}
-use lib.Signed.{leZ, _≤ℤ_, _<ℤ_}
-use borrow.Author.Tests.{eqb-true, eqb-false, ltb-true, ltb-false, eq-eqb, ne-eqb, lt-ltb, le-ltb, not-true}
+use lib.Signed.{leZ}
+use borrow.Author.Tests.{eqb-true, eqb-false, ltb-true, ltb-false, eq-eqb, ne-eqb, lt-ltb, not-true}
 use Rattle.whole.specs.Between.{Within}
 use Rattle.whole.specs.Tests.{some, eqZ}
 use Rattle.whole.proofs.Order.{leZ-true, leZ-false, le-leZ, lt-leZ, clash}

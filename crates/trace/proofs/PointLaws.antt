@@ -1,16 +1,15 @@
 -- Points of a coordinate list: where point k stands, that indices run round, and what range their products have.
 -- Assumes nothing.
-use mathlib.Core.Path.{_≡_, refl, sym, ap, _∙_, subst}
+use mathlib.Core.Path.{_≡_, refl, sym, ap, _∙_}
 use mathlib.Core.Bool.{Bool, true, false, not, _&&_}
 use mathlib.Core.List.{List}
-use Prim.Native.Nat.{ℕ, zero, suc, _+_, _*_, _/_, _%_, _≤_, _<_}
+use Prim.Native.Nat.{ℕ, _+_, _*_, _%_, _≤_, _<_}
 use native.Mathlib.Nat.{mod-eq-of-lt, mod-self, mod-lt, zero-mod}
 use native.Mathlib.Omega.{arith}
-use lib.IntN.{ℤ, pos, negsuc, negℤ, _+ℤ_, _-ℤ_, _*ℤ_}
-use lib.Signed.{leZ, _≤ℤ_}
+use lib.IntN.{ℤ, pos, negsuc, _-ℤ_, _*ℤ_}
+use lib.Signed.{leZ}
 use lib.ListN.{length, getD}
-use Rattle.whole.specs.Between.{Between, Within}
-use Rattle.whole.specs.Sum.{sum}
+use Rattle.whole.specs.Between.{Within}
 use Rattle.whole.proofs.Order.{leZ-true, le-leZ}
 use Rattle.whole.proofs.Bounds.{between-wider, between-sub, between-mul, sum-within}
 use Rattle.whole.proofs.TestLaws.{and-true, true≢false}

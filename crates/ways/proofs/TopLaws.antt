@@ -1,12 +1,12 @@
 -- (12) and (13) for an engine that fills a table: each index and each test from its neighbours, in the code's `i + 1`; how far an
 -- index can be from zero; and that worths which agree inside the grid give the same table. Assumes nothing.
-use mathlib.Core.Path.{_≡_, refl, sym, ap, ap₂, _∙_}
+use mathlib.Core.Path.{_≡_, refl, ap₂}
 use mathlib.Core.Bool.{Bool, true, false}
 use Prim.Native.Nat.{ℕ, zero, suc, _+_, _*_, _≤_, _<_}
 use native.Mathlib.Numerals.{add-one}
 use native.Mathlib.Omega.{arith}
 use lib.IntN.{ℤ, pos, _+ℤ_}
-use lib.Signed.{leZ, _≤ℤ_}
+use lib.Signed.{leZ}
 use Rattle.whole.specs.Between.{Within}
 use Rattle.whole.proofs.Bounds.{between-sum, between-wider, zero-within}
 use Rattle.ways.specs.Value.{Worths}

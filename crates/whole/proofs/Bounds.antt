@@ -1,12 +1,11 @@
-use mathlib.Core.Path.{_≡_, refl, sym, ap, _∙_, subst}
+use mathlib.Core.Path.{_≡_, sym, subst}
 use Prim.Native.Nat.{ℕ, zero, suc, _+_, _*_, _-_, _≤_, _<_, max}
 use native.Mathlib.Omega.{arith}
-use native.Mathlib.Nat.{mul-le-mul, le-trans}
-use lib.IntN.{ℤ, pos, negsuc, negℤ, _+ℤ_, _-ℤ_, _*ℤ_}
-use lib.Signed.{_≤ℤ_, _<ℤ_}
+use native.Mathlib.Nat.{mul-le-mul}
+use lib.IntN.{ℤ, pos, negℤ, _+ℤ_, _-ℤ_, _*ℤ_}
 use Rattle.whole.specs.Between.{Between, Within}
 use Rattle.whole.specs.Sum.{sum}
-use Rattle.whole.proofs.Linear.{up, dn, up-pos, dn-pos, up-neg, dn-neg, up-mul, dn-mul, sum-eq, one-sided, nat-le, le-nat, zsum, znat}
+use Rattle.whole.proofs.Linear.{up, dn, up-pos, dn-pos, up-neg, dn-neg, up-mul, dn-mul, sum-eq, one-sided, nat-le, le-nat}
 
 -- ---- a bound, as a bound on up and one on dn
 

@@ -1,12 +1,12 @@
 -- The half of a whole number, rounded toward zero as the machine's division by 2 rounds; of an even number it is exact.
 -- Assumes nothing.
-use mathlib.Core.Path.{_≡_, refl, sym, ap, _∙_, subst}
-use Prim.Native.Nat.{ℕ, zero, suc, _+_, _/_, _^_, _<_, _≤_}
+use mathlib.Core.Path.{_≡_, sym, ap, subst}
+use Prim.Native.Nat.{ℕ, zero, suc, _+_, _/_, _≤_}
 use native.Mathlib.Omega.{arith}
 use lib.IntN.{ℤ, pos, negsuc, negℤ, _+ℤ_}
 use lib.Signed.{quotZ, mag}
 use mir.Syntax.{Width}
-use mir.Val.{SFits, toZ, ofZ, hbits}
+use mir.Val.{SFits, toZ, ofZ}
 use mir.ValLaws.{toZ-ofZ, sfits-le}
 
 neg-mag : (k n : ℕ) → k ≤ n → mag (negℤ (pos k)) ≤ n

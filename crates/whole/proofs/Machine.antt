@@ -7,7 +7,7 @@
 -- Assumes nothing.
 use mathlib.Core.Path.{_≡_, refl, sym, ap, ap₂, _∙_, subst}
 use mathlib.Core.Bool.{Bool, true, false, _&&_}
-use Prim.Native.Nat.{ℕ, zero, suc, _+_, _*_, _-_, _^_, _≤_, _<_, max}
+use Prim.Native.Nat.{ℕ, suc, _+_, _*_, _-_, _^_, _<_, max}
 use native.Mathlib.Omega.{arith}
 use lib.IntN.{ℤ, pos, negsuc, natAbs, _+ℤ_, _-ℤ_, _*ℤ_}
 use lib.Signed.{mag, ltZ, nonNeg}
@@ -19,8 +19,8 @@ use mir.ValLaws.{toZ-ofZ}
 use Rattle.whole.specs.Between.{Between, Within}
 use Rattle.whole.specs.Tests.{eqZ}
 use Rattle.whole.proofs.TestLaws.{true≢false, not-true-false, eqZ-true, eq-eqZ}
-use Rattle.whole.proofs.Linear.{up, dn, up-pos, dn-pos, up-negsuc, dn-negsuc}
-use Rattle.whole.proofs.Bounds.{up-le, dn-le, between, between-wider, between-sum, between-sub, between-mul}
+use Rattle.whole.proofs.Linear.{up-pos, dn-pos, up-negsuc, dn-negsuc}
+use Rattle.whole.proofs.Bounds.{up-le, dn-le, between, between-sum, between-sub, between-mul}
 
 -- the machine's m is the whole number z, which is from -lo to hi
 pub record Holds (lo hi : ℕ) (m z : ℤ) : Type 0 where

@@ -10,7 +10,7 @@ use mir.Val.{toZ, ofZ}
 use Rattle.whole.proofs.Machine.{read-back}
 use Rattle.trace.proofs.PairLaws.{Counts, counts, PairCounts, pair-counts, refuses-lower, refuses-upper}
 use Rattle.joining.specs.Answers.{Enough, pair, room, noStrip}
-use Rattle.joining.proofs.CellLaws.{room-needs, room-fits}
+use Rattle.joining.proofs.CellLaws.{room-needs}
 use Rattle.joining.proofs.RowLaws.{cells-few}
 use Rattle.joining.proofs.OutlineLaws.{filled-is}
 use Rattle.joining.proofs.BestLaws.{enough, short-strip, short-work}

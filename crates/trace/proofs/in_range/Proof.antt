@@ -1,6 +1,5 @@
 -- `trace::in_range` meets its contract: the two tests of an i32 are the tests of the number that it holds. Assumes nothing.
 use mathlib.Core.Path.{ap}
-use lib.IntN.{ℤ}
 use mir.Syntax.{w32}
 use mir.ValLaws.{toZ-ofZ}
 use Rattle.trace.specs.Judged.{inRange}

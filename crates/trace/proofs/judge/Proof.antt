@@ -1,9 +1,6 @@
 -- `trace::judge` meets its contract: each `return` is one case of the definition. Assumes nothing.
-use mathlib.Core.Path.{sym}
-use native.Mathlib.Omega.{arith}
 use borrow.Author.Needs.{needs}
 use borrow.Author.Tests.{eq-eqb, ne-eqb, lt-ltb, le-ltb}
-use lib.ListN.{length}
 use Rattle.trace.specs.Points.{count}
 use Rattle.trace.specs.Judged.{judged}
 use Rattle.trace.proofs.judge.Statement.{statement}

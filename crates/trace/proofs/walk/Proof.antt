@@ -1,15 +1,13 @@
 -- `trace::walk` meets its contract. The invariant: point k is reached, and what the walk keeps is what `Along` says of the points
 -- up to k. Assumes nothing.
-use mathlib.Core.Path.{_≡_, refl, sym, ap, _∙_}
+use mathlib.Core.Path.{ap, _∙_}
 use mathlib.Core.Bool.{not}
-use Prim.Native.Nat.{ℕ, _+_, _*_, _-_, _≤_}
+use Prim.Native.Nat.{_+_, _-_, _≤_}
 use native.Mathlib.Omega.{arith}
 use borrow.Author.Needs.{needs}
-use lib.ListN.{length}
-use Rattle.trace.specs.Judged.{judged}
-use Rattle.trace.specs.Walk.{inside, Along}
+use Rattle.trace.specs.Walk.{Along}
 use Rattle.trace.proofs.PointLaws.{counted}
-use Rattle.trace.proofs.Along.{PointIs, along-begun, along-ready, along-step, along-closed, judged-walk}
+use Rattle.trace.proofs.Along.{along-begun, along-ready, along-step, along-closed, judged-walk}
 use Rattle.trace.proofs.walk.Statement.{statement}
 use Rattle.trace.proofs.walk.Tie as tie
 

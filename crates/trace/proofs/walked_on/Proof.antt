@@ -1,16 +1,12 @@
 -- `trace::walked_on` meets its contract. Out of range nothing else is claimed; in range the sum stays far inside an i64, as the
 -- area so far and one cross more do. Assumes nothing.
 use mathlib.Core.Path.{_≡_, refl, sym, ap, ap₂, _∙_}
-use mathlib.Core.Bool.{Bool, true, false, not, _||_}
-use lib.IntN.{ℤ, _+ℤ_, _-ℤ_, _*ℤ_}
+use mathlib.Core.Bool.{Bool, true, not, _||_}
 use mir.Syntax.{w64}
-use mir.Val.{toZ, ofZ}
 use borrow.Author.Needs.{needs}
-use borrow.Author.Tests.{not-true, not-false}
-use Rattle.whole.proofs.Machine.{Holds, held, from, plus, fits-holds}
+use borrow.Author.Tests.{not-false}
+use Rattle.whole.proofs.Machine.{held, from, plus, fits-holds}
 use Rattle.whole.proofs.TestLaws.{or-true-left}
-use Rattle.trace.specs.declared.Walked.{Walked}
-use Rattle.trace.specs.declared.Point.{Point}
 use Rattle.trace.specs.Walk.{inside, Ready}
 use Rattle.trace.proofs.Along.{walked-out, cross-holds}
 use Rattle.trace.proofs.walked_on.Statement.{statement}
