@@ -29,6 +29,8 @@ use Rattle.strip.specs.declared.Valued.the-variants.{Value, Refused}
 use Rattle.strip.specs.Worth.{W}
 use Rattle.strip.specs.Judging.{StripJudged, strip}
 use Rattle.strip.proofs.ValueLaws.{W-within}
+use Rattle.strip.specs.Band.{bandSix}
+use Rattle.strip.proofs.BandLaws.{half-within}
 use Rattle.strip.proofs.Exact.{strip-judged-unique, accepted-value}
 use Rattle.stack.specs.declared.Layer.{Layer}
 use Rattle.stack.specs.declared.Stack.{Stack}
@@ -42,7 +44,7 @@ use Rattle.mesh.specs.Bands.{rule, bandRule, sixOf}
 use Rattle.mesh.specs.Working.{Joined, Fitted}
 use Rattle.mesh.proofs.Parts.{upper}
 use Rattle.mesh.proofs.StepBytes.{strip-steps, steps-strip}
-use Rattle.mesh.proofs.Stacked.{half-within, band-pair, sums-within}
+use Rattle.mesh.proofs.Stacked.{band-pair, sums-within}
 
 -- ---- judgements
 
@@ -71,7 +73,7 @@ module _ {a b : List ℤ} {l : List ℕ} (j : Joined a b l) where
   -- ---- the rule, as the machine works it out
 
   half-bound : Within 10000000000000 (quotZ (W a b (stepsOf l)) (pos 2))
-  half-bound = half-within (j .pair) l (steps-strip (j .strip))
+  half-bound = half-within (j .pair) (steps-strip (j .strip))
 
   pub half-returned : {w : ℤ} → w ≡ quotZ (W a b (stepsOf l)) (pos 2) → toZ w64 (ofZ w64 w) ≡ quotZ (W a b (stepsOf l)) (pos 2)
   half-returned e = held w64 (from e half-bound) tt .is
@@ -91,7 +93,7 @@ module _ {a b : List ℤ} {l : List ℕ} (j : Joined a b l) where
       (toZ w64 (ofZ w64 (toZ w32 (ofZ w32 h)))
       *ℤ toZ w64 (ofZ w64 (toZ w64 (ofZ w64 (toZ w64 (ofZ w64 x) +ℤ toZ w64 (ofZ w64 y))) +ℤ toZ w64 (ofZ w64 z))))
       (rule h a b l)
-  unfolding rule
+  unfolding rule bandSix
   rule-held h p q r = times (held w64 (held w32 (from refl h) tt) tt) (held w64 (amount-held p q r) tt)
 
 -- ---- a band of a stack

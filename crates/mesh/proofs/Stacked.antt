@@ -20,7 +20,8 @@ use Rattle.trace.specs.Pair.{Pair}
 use Rattle.trace.proofs.PointLaws.{area-within}
 use Rattle.strip.specs.Worth.{W, partA}
 use Rattle.strip.proofs.SameAmount.{W-even, W-half}
-use Rattle.strip.proofs.ValueLaws.{W-within}
+use Rattle.strip.specs.Band.{bandSix}
+use Rattle.strip.proofs.BandLaws.{amount-within}
 use Rattle.stack.specs.declared.Layer.{Layer}
 use Rattle.stack.specs.Entries.{entry, traceOf}
 use Rattle.stack.specs.Faults.{AcceptedStack}
@@ -31,26 +32,6 @@ use Rattle.mesh.specs.Bands.{rule, bandRule, xOf, yOf, zOf}
 use Rattle.mesh.proofs.Rings.{ringOf, area-ring, value-ring, z-ring, some-points}
 use Rattle.mesh.proofs.StepBytes.{steps-strip}
 use Rattle.mesh.proofs.Volumes.{Band, BandSum, none, upon}
-
--- ---- the numbers of one band
-
--- W/2 is within 10^13
-pub half-within : {a b : List ℤ} → Pair a b → (l : List ℕ) → Strip (count a) (count b) (stepsOf l)
-    → Within 10000000000000 (quotZ (W a b (stepsOf l)) (pos 2))
-half-within {a} {b} p l s =
-    let w : Within 20000000000000 (partA a b (stepsOf l) +ℤ partA a b (stepsOf l)) = rw (W-even a b s) at (W-within p s) in
-    rw (W-half a b s) (record { low = low (partA a b (stepsOf l)) (w .low); high = high (partA a b (stepsOf l)) (w .high) })
-  where
-    low : (h : ℤ) → negℤ (pos 20000000000000) ≤ℤ (h +ℤ h) → negℤ (pos 10000000000000) ≤ℤ h
-    low h = simp zsum (simp znat (omega arith))
-
-    high : (h : ℤ) → (h +ℤ h) ≤ℤ pos 20000000000000 → h ≤ℤ pos 10000000000000
-    high h = simp zsum (simp znat (omega arith))
-
--- twice the areas and W/2 together
-pub amount-within : {a b : List ℤ} → Pair a b → (l : List ℕ) → Strip (count a) (count b) (stepsOf l)
-    → Within 20000000000000 (twiceArea a +ℤ twiceArea b +ℤ quotZ (W a b (stepsOf l)) (pos 2))
-amount-within p l s = between-sum (between-sum (area-within (p .lower)) (area-within (p .upper))) (half-within p l s)
 
 -- ---- how far the planes rise
 
@@ -103,7 +84,7 @@ module _ {es : List Layer} {c : List ℤ} {l : List ℕ} (a : AcceptedStack es c
   band : (k : ℕ) → suc k < length es
       → Band (xOf c) (yOf c) (zOf es) (ringOf (entry es k)) (ringOf (entry es (suc k))) (entry es k .plane) (entry es (suc k) .plane)
       (stepsOf (bandPart es l k)) (bandRule es c l k)
-  unfolding bandRule rule
+  unfolding bandRule rule bandSix
   band k h =
       let g : k < length es = omega arith in
       let d = entry es k in
@@ -139,7 +120,7 @@ module _ {es : List Layer} {c : List ℤ} {l : List ℕ} (a : AcceptedStack es c
     bound : Within (risen .by * 20000000000000) (sum k (bandRule es c l))
 
   summed : (k : ℕ) → k < length es → Summed k
-  unfolding sum bandRule rule
+  unfolding sum bandRule rule bandSix
   summed zero h = record { risen = record { by = 0; rises = same (entry es 0 .plane) }; bound = zero-within (0 * 20000000000000) }
     where
       same : (z : ℤ) → z ≡ z +ℤ pos 0
@@ -155,7 +136,7 @@ module _ {es : List Layer} {c : List ℤ} {l : List ℕ} (a : AcceptedStack es c
               more (entry es 0 .plane) (entry es k .plane) (entry es (suc k) .plane) (s .risen .by) (d .by) (s .risen .rises) (d .rises);
         };
         bound = between-wider (omega arith) (omega arith)
-            (between-sum (s .bound) (by-rise d (amount-within (band-pair k h) (bandPart es l k) (band-strip k h))));
+            (between-sum (s .bound) (by-rise d (amount-within (band-pair k h) (band-strip k h))));
       }
     where
       le : (y z : ℤ) → y <ℤ z → y ≤ℤ z

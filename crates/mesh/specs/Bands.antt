@@ -4,20 +4,18 @@ use mathlib.Core.Bool.{cond}
 use mathlib.Core.List.{List, [], _∷_}
 use Prim.Native.Nat.{ℕ, suc, _+_, _-_, _*_}
 use lib.Dec.{ltb}
-use lib.IntN.{ℤ, pos, _+ℤ_, _-ℤ_, _*ℤ_}
+use lib.IntN.{ℤ, pos, _-ℤ_}
 use lib.ListN.{length, getD}
-use lib.Signed.{quotZ}
 use Rattle.whole.specs.Sum.{sum}
-use Rattle.trace.specs.Points.{twiceArea}
-use Rattle.strip.specs.Worth.{W}
+use Rattle.strip.specs.Band.{bandSix}
 use Rattle.stack.specs.declared.Layer.{Layer}
 use Rattle.stack.specs.Entries.{entry, traceOf, stop}
 use Rattle.stack.specs.Strips.{bandPart}
 use Rattle.mesh.specs.Closed.{stepsOf}
 
--- the rule for the traces a and b, h apart, and the bytes l of a strip between them. W is even (`strip`, W-even), so W/2 is exact.
+-- the rule for the traces a and b, h apart, and the bytes l of a strip between them
 unfoldable pub rule : ℤ → List ℤ → List ℤ → List ℕ → ℤ
-rule h a b l = h *ℤ (twiceArea a +ℤ twiceArea b +ℤ quotZ (W a b (stepsOf l)) (pos 2))
+rule h a b l = bandSix h a b (stepsOf l)
 
 -- of band k: "h the upper plane less the lower"
 unfoldable pub bandRule : List Layer → List ℤ → List ℕ → ℕ → ℤ

@@ -3,6 +3,7 @@ pub mod WorthLaws
 pub mod ValueLaws
 pub mod SameAmount
 pub mod BytesLaws
+pub mod BandLaws
 pub mod Exact
 mod Along
 mod StepLaws

@@ -3,3 +3,4 @@ pub mod Worth
 pub mod Bytes
 pub mod Judging
 pub mod Walk
+pub mod Band
