@@ -13,6 +13,9 @@ pub mod LineLaws
 pub mod LengthLaws
 pub mod StripLines
 pub mod PlaneLaws
+pub mod ListLaws
+pub mod TellLaws
 pub mod Exact
 pub mod RoundTrip
+pub mod ReadLaws
 pub mod Examples

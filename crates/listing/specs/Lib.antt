@@ -9,3 +9,5 @@ pub mod Writing
 pub mod Scan
 pub mod Filling
 pub mod Pairs
+pub mod Listing
+pub mod Telling

@@ -1,4 +1,4 @@
-// The pair that was read: its refusal, or its best strips.
+// The pair that was read, judged: trace by trace, then the planes.
 ghost use mathlib.Core.Path.{_≡_};
 ghost use mathlib.Core.List.{List};
 ghost use Prim.Native.Nat.{_≤_};
@@ -16,7 +16,7 @@ use fault::number;
 use trace::Judgement;
 
 // The judgement of a trace of `count` points, of which no more than 250 were kept: over 250 points are MANY, whatever they are.
-fn judge_read(kept: &[i32], count: usize) -> Judgement
+pub(crate) fn judge_read(kept: &[i32], count: usize) -> Judgement
     ensures { λ r. ⌜ ((c : List ℤ) → Held c count (now (kept .entry)) → r ≡ judged c) ⌝ }
 {
     if 250 < count {
@@ -30,7 +30,7 @@ fn judge_read(kept: &[i32], count: usize) -> Judgement
 }
 
 // The one line of a refusal.
-fn tell(out: &mut [u8], refusal: Refusal) -> usize
+pub(crate) fn tell(out: &mut [u8], refusal: Refusal) -> usize
     requires { ⌜ 33 ≤ length (now out) ⌝ }
     ensures { λ r. ⌜ Wrote (now (out .entry)) 0 (refusedLine (numberOf (refusal .fault)) (refusal .place)) (now (out .exit)) r ⌝ }
 {
@@ -39,7 +39,7 @@ fn tell(out: &mut [u8], refusal: Refusal) -> usize
 }
 
 // The lowest plane out of range or not above the one below.
-enum Planes {
+pub(crate) enum Planes {
     Rise,
     Wrong(usize),
 }
@@ -50,7 +50,7 @@ fn in_range(plane: i32) -> bool
     (-100_000 <= plane) & (plane <= 100_000)
 }
 
-fn judge_planes(lower: i32, upper: i32) -> Planes
+pub(crate) fn judge_planes(lower: i32, upper: i32) -> Planes
     ensures { λ r. ⌜ PlanesAnswer lower upper r ⌝ }
 {
     if !in_range(lower) {

@@ -1,0 +1,56 @@
+-- 01, "The listing program": every byte that is written for an input. "Output: value and six times the volume, a line each for the
+-- first 1,000 best strips in A and B, then `end`, or `more` if some remain. Else one line `refused`, number, place."
+use mathlib.Core.Path.{_≡_}
+use mathlib.Core.Bool.{Bool, true, false}
+use mathlib.Core.List.{List, _++_}
+use Prim.Native.Nat.{ℕ, _≤_, _<_}
+use lib.IntN.{ℤ, _-ℤ_}
+use lib.ListN.{length, drop}
+use Rattle.fault.specs.declared.Refusal.{Refusal}
+use Rattle.fault.specs.declared.Fault.the-variants.{Room, Planes, Text}
+use Rattle.fault.specs.Number.{numberOf}
+use Rattle.trace.specs.Pair.{at, Pair, PairRefused}
+use Rattle.ways.specs.Strip.{Step}
+use Rattle.strip.specs.Worth.{W}
+use Rattle.strip.specs.Band.{bandSix}
+use Rattle.joining.specs.Answers.{BestOf}
+use Rattle.joining.specs.Listing.{Beginning}
+use Rattle.listing.specs.declared.Listed.{Listed}
+use Rattle.listing.specs.declared.Listed.the-variants.{Bytes, Refused}
+use Rattle.listing.specs.Asked.{reads, text, pair}
+use Rattle.listing.specs.Lines.{valueLine, stripLines, endLine, moreLine, refusedLine}
+use Rattle.listing.specs.Pairs.{PlanesWrong, PlanesRise}
+
+unfoldable pub lastLine : Bool → List ℕ
+lastLine true = moreLine
+lastLine false = endLine
+
+unfoldable pub refusal : Refusal → List ℕ
+refusal r = refusedLine (numberOf (r .fault)) (r .place)
+
+-- the lines for two accepted traces, h apart: any best strip s has the value and the volume, and l are the first 1,000 best strips
+pub data BestLines (h : ℤ) (a b : List ℤ) : List ℕ → Type 0 where
+  lines : {more : Bool} → (s : List Step) → BestOf a b s → (l : List (List Step)) → Beginning a b 1000 l more
+      → BestLines h a b (valueLine (W a b s) (bandSix h a b s) ++ (stripLines l ++ lastLine more))
+
+-- for two planes and traces: "trace by trace .. 1 to 6, then 7"
+pub data PairListing (lower : ℤ) (a : List ℤ) (upper : ℤ) (b : List ℤ) : List ℕ → Type 0 where
+  traces : {r : Refusal} → PairRefused a b r → PairListing lower a upper b (refusal r)
+  planes : {k : ℕ} → Pair a b → PlanesWrong lower upper k → PairListing lower a upper b (refusal (at Planes k))
+  best : {bytes : List ℕ} → Pair a b → PlanesRise lower upper → BestLines (upper -ℤ lower) a b bytes → PairListing lower a upper b bytes
+
+-- for any input t
+pub data Listing (t : List ℕ) : List ℕ → Type 0 where
+  unread : reads t ≡ text → Listing t (refusal (at Text 0))
+  read : {lower upper : ℤ} {a b : List ℤ} {bytes : List ℕ} → reads t ≡ pair lower a upper b → PairListing lower a upper b bytes
+      → Listing t bytes
+
+-- room for the longest listing: a line of 42 bytes, 1,000 of 501, and `more`
+abbrev pub longest : ℕ
+longest = 501047
+
+-- at the front of a slice that held out and holds what is said here
+pub data ListingAnswer (t out : List ℕ) : List ℕ → Listed → Type 0 where
+  room : length out < longest → ListingAnswer t out out (Refused (at Room 0))
+  written : {bytes : List ℕ} → longest ≤ length out → Listing t bytes
+      → ListingAnswer t out (bytes ++ drop (length bytes) out) (Bytes (length bytes))
