@@ -113,9 +113,9 @@ module _ {a b : List ℤ} {strip work : List ℕ} where
 -- ---- a run of strips
 
 -- two beginnings that a limit allows are one, and say alike whether some remain
-record SameBeginning (k l : List (List Step)) (more more′ : Bool) : Type 0 where
-  strips : k ≡ l
-  remain : more ≡ more′
+pub record SameBeginning (k l : List (List Step)) (more more′ : Bool) : Type 0 where
+  pub strips : k ≡ l
+  pub remain : more ≡ more′
 
 too-long : (k l : List (List Step)) (s : List Step) (rest : List (List Step)) (limit : ℕ) → k ≡ l ++ s ∷ rest → length k ≤ limit
     → length l ≡ limit → ⊥
@@ -125,7 +125,7 @@ fronts : (k l x y : List (List Step)) → length k ≡ length l → k ++ x ≡ l
 fronts k l x y h e =
     sym (take-at k x (length k) refl) ∙ ap (take (length k)) e ∙ take-at l y (length k) (sym h)
 
-same-beginning : (a b : List ℤ) {limit : ℕ} {k l : List (List Step)} {more more′ : Bool} → Beginning a b limit k more → Beginning a b limit l more′
+pub same-beginning : (a b : List ℤ) {limit : ℕ} {k l : List (List Step)} {more more′ : Bool} → Beginning a b limit k more → Beginning a b limit l more′
     → SameBeginning k l more more′
 same-beginning a b (all x h) (all y j) = record { strips = listed-unique x y; remain = refl }
 same-beginning a b {limit} {k} {l} (all x h) (some s rest y j) = absurd (too-long k l s rest limit (listed-unique x y) h j)

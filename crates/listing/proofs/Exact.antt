@@ -155,7 +155,7 @@ found (y ∷ pos m ∷ l) z cs r e = go (leb (2 * m) (length l)) refl e
         }
     go false t e = no-layer e
 
-no-pair : {X : Type 0} {z y : ℤ} {a b : List ℤ} → text ≡ pair z a y b → X
+pub no-pair : {X : Type 0} {z y : ℤ} {a b : List ℤ} → text ≡ pair z a y b → X
 no-pair e = absurd (let z : _≡_ {A = ℕ} 0 1 = cc in omega arith)
 
 -- numbers laid out as stated

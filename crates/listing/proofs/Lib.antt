@@ -17,5 +17,6 @@ pub mod ListLaws
 pub mod TellLaws
 pub mod Exact
 pub mod RoundTrip
+pub mod Unique
 pub mod ReadLaws
 pub mod Examples

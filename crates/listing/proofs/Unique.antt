@@ -1,0 +1,95 @@
+-- Two outcomes that the contract allows for one input coincide: the number of bytes, every byte written and every other. What is read is
+-- one (it is computed), a pair is refused in one way or not at all, and the list of best strips and its value are one. Assumes nothing.
+use mathlib.Core.Path.{_≡_, refl, sym, ap, ap₂, _∙_, subst}
+use mathlib.Core.Bool.{Bool}
+use mathlib.Core.List.{List, _++_}
+use Prim.Native.Nat.{ℕ}
+use native.Mathlib.Omega.{arith}
+use lib.IntN.{ℤ, pos, _+ℤ_, _-ℤ_, _*ℤ_}
+use lib.ListN.{length, drop}
+use lib.Signed.{quotZ}
+use Rattle.whole.proofs.Order.{clash}
+use Rattle.fault.specs.declared.Refusal.{Refusal}
+use Rattle.fault.specs.declared.Fault.the-variants.{Planes}
+use Rattle.trace.specs.Points.{twiceArea}
+use Rattle.trace.specs.Pair.{at}
+use Rattle.trace.proofs.PairLaws.{pair-refused-unique, refused-not-pair}
+use Rattle.ways.specs.Strip.{Step}
+use Rattle.ways.proofs.Unique.{best-same}
+use Rattle.strip.specs.Worth.{W}
+use Rattle.strip.specs.Band.{bandSix}
+use Rattle.joining.proofs.Exact.{same-beginning}
+use Rattle.listing.specs.declared.Listed.{Listed}
+use Rattle.listing.specs.declared.Listed.the-variants.{Bytes}
+use Rattle.listing.specs.Asked.{Reading, pair}
+use Rattle.listing.specs.Asked as Asked
+use Rattle.listing.specs.Lines.{valueLine, stripLines}
+use Rattle.listing.specs.Pairs.{PlanesWrong, low, high, fall, PlanesRise}
+use Rattle.listing.specs.Listing.{refusal, lastLine, BestLines, lines, PairListing, traces, planes, best, Listing, unread, read, ListingAnswer, room, written}
+use Rattle.listing.proofs.Exact.{no-pair}
+
+-- ---- the planes
+
+planes-unique : {lower upper : ℤ} {j k : ℕ} → PlanesWrong lower upper j → PlanesWrong lower upper k → j ≡ k
+planes-unique (low x) (low y) = refl
+planes-unique (low x) (high y z) = absurd (x y)
+planes-unique (low x) (fall y z w) = absurd (x y)
+planes-unique (high x y) (low z) = absurd (z x)
+planes-unique (high x y) (high z w) = refl
+planes-unique (high x y) (fall z w v) = refl
+planes-unique (fall x y z) (low w) = absurd (w x)
+planes-unique (fall x y z) (high w v) = refl
+planes-unique (fall x y z) (fall w v u) = refl
+
+not-both : {lower upper : ℤ} {k : ℕ} → PlanesWrong lower upper k → PlanesRise lower upper → ⊥
+not-both (low x) r = x (r .lowIn)
+not-both (high x y) r = y (r .highIn)
+not-both (fall x y z) r = clash (r .rises) z
+
+-- ---- the lines
+
+six-same : (h : ℤ) (a b : List ℤ) (s t : List Step) → W a b s ≡ W a b t → bandSix h a b s ≡ bandSix h a b t
+unfolding bandSix
+six-same h a b s t e = ap (λ (w : ℤ). h *ℤ (twiceArea a +ℤ twiceArea b +ℤ quotZ w (pos 2))) e
+
+best-lines-unique : {h : ℤ} {a b : List ℤ} {x y : List ℕ} → BestLines h a b x → BestLines h a b y → x ≡ y
+best-lines-unique {h} {a} {b} (lines {more = m} s f k p) (lines {more = n} t g l q) =
+    let w = best-same f g in
+    let same = same-beginning a b p q in
+    ap₂ (λ (u v : List ℕ). u ++ v) (ap₂ valueLine w (six-same h a b s t w))
+    (ap₂ (λ (v : List (List Step)) (z : Bool). stripLines v ++ lastLine z) (same .strips) (same .remain))
+
+pair-unique : {lower upper : ℤ} {a b : List ℤ} {x y : List ℕ} → PairListing lower a upper b x → PairListing lower a upper b y → x ≡ y
+pair-unique (traces p) (traces q) = ap refusal (pair-refused-unique p q)
+pair-unique (traces p) (planes q w) = absurd (refused-not-pair p q)
+pair-unique (traces p) (best q r l) = absurd (refused-not-pair p q)
+pair-unique (planes p w) (traces q) = absurd (refused-not-pair q p)
+pair-unique (planes p w) (planes q v) = ap (λ (k : ℕ). refusal (at Planes k)) (planes-unique w v)
+pair-unique (planes p w) (best q r l) = absurd (not-both w r)
+pair-unique (best p r k) (traces q) = absurd (refused-not-pair q p)
+pair-unique (best p r k) (planes q w) = absurd (not-both w r)
+pair-unique (best p r k) (best q s l) = best-lines-unique k l
+
+-- ---- for any input
+
+-- the text that is written is one
+pub listing-unique : {t x y : List ℕ} → Listing t x → Listing t y → x ≡ y
+listing-unique (unread d) (unread e) = refl
+listing-unique (unread d) (read e q) = absurd (no-pair (sym d ∙ e))
+listing-unique (read d p) (unread e) = absurd (no-pair (sym e ∙ d))
+listing-unique {y = y} (read {lower = l} {upper = u} {a = a} {b = b} d p) (read {lower = l′} {upper = u′} {a = a′} {b = b′} e q) =
+    let f = sym e ∙ d in
+    let w : l′ ≡ l = cc in
+    let v : u′ ≡ u = cc in
+    let i : a′ ≡ a = cc in
+    let j : b′ ≡ b = cc in
+    pair-unique p (rw (w, v, i, j) at q)
+
+-- so are the answer and every byte of the lent slice
+pub answer-unique : {t out x y : List ℕ} {r s : Listed} → ListingAnswer t out x r → ListingAnswer t out y s → (r ≡ s) × (x ≡ y)
+answer-unique (room h) (room k) = (refl, refl)
+answer-unique (room h) (written k q) = absurd (omega arith)
+answer-unique (written h p) (room k) = absurd (omega arith)
+answer-unique {out = out} (written h p) (written k q) =
+    let e = listing-unique p q in
+    (ap (λ (x : List ℕ). Bytes (length x)) e, ap (λ (x : List ℕ). x ++ drop (length x) out) e)
