@@ -5,7 +5,7 @@ use mathlib.Core.List.{List, _++_}
 use Prim.Native.Nat.{ℕ, _*_, _≤_}
 use native.Mathlib.Omega.{arith}
 use lib.IntN.{ℤ, _+ℤ_, _-ℤ_}
-use lib.ListN.{length, take, drop}
+use lib.ListN.{length, take, drop, length-append}
 use mir.Syntax.{w32, w64}
 use mir.Val.{SFits, toZ, ofZ}
 use mir.ValLaws.{toZ-ofZ}
@@ -22,8 +22,9 @@ use Rattle.trace.proofs.Exact.{fit-exactly}
 use Rattle.listing.specs.declared.pair.Planes.{Planes}
 use Rattle.listing.specs.declared.pair.Planes.the-variants.{Rise, Wrong}
 use Rattle.listing.specs.Pairs.{PlanesWrong, PlanesRise, PlanesAnswer, wrong, rise}
+use Rattle.listing.specs.declared.Listed.{Listed}
 use Rattle.listing.specs.declared.Listed.the-variants.{Bytes}
-use Rattle.listing.specs.Listing.{Listing, longest, ListingAnswer, written}
+use Rattle.listing.specs.Listing.{Listing, longest, ListingAnswer, room, written}
 use Rattle.listing.specs.Telling.{Told, Kept}
 use Rattle.listing.proofs.PlaneLaws.{held-count}
 
@@ -79,3 +80,9 @@ pub told-written : {t out out′ : List ℕ} {n : ℕ} → longest ≤ length ou
 told-written {t} {out} {out′} {n} h told =
     let long : n ≡ length (told .bytes) = omega (arith, told .wrote .next) in
     rw (long, told .wrote .whole ∙ ap (λ (k : ℕ). told .bytes ++ drop k out) long) (written h (told .such))
+
+-- for a caller: the bytes that were written are there
+pub bytes-inside : {t out out′ : List ℕ} {r : Listed} {n : ℕ} → ListingAnswer t out out′ r → r ≡ Bytes n → n ≤ length out′
+bytes-inside (room h) e = absurd (let z : _≡_ {A = ℕ} 0 1 = cc in omega arith)
+bytes-inside {out = out} {n = n} (written {bytes = l} h p) e =
+    let long : n ≡ length l = cc in omega (arith, length-append l (drop (length l) out))
