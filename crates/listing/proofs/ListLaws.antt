@@ -87,20 +87,20 @@ module _ {a b : List ℤ} (p : Pair a b) where
   few-steps : count a + count b ≤ 500
   few-steps = omega (arith, p .lower .notMany, p .upper .notMany)
 
-  enough : {lines work : List ℕ} → 500000 ≡ length lines → 63001 ≡ length work → EnoughLines a b 1000 lines work
-  enough h k = record {
-    forLines = omega (arith, mul-le-mul {n₁ = 1000} {m₁ = count a + count b} {n₂ = 1000} {m₂ = 500} (omega arith) few-steps);
+  enough : {limit : ℕ} {lines work : List ℕ} → limit ≤ 1000 → 500000 ≡ length lines → 63001 ≡ length work → EnoughLines a b limit lines work
+  enough {limit} few h k = record {
+    forLines = omega (arith, mul-le-mul {n₁ = limit} {m₁ = count a + count b} {n₂ = 1000} {m₂ = 500} few few-steps);
     forWork = omega (
       arith,
       mul-le-mul {n₁ = count a + 1} {m₁ = count b + 1} {n₂ = 251} {m₂ = 251} (omega (arith, p .lower .notMany)) (omega (arith, p .upper .notMany)),
     );
   }
 
-  pub never-refused : {lines work lines′ work′ : List ℕ} {r : Run} {f : Refusal} → 500000 ≡ length lines → 63001 ≡ length work
-      → ListAnswer a b 1000 lines work lines′ work′ r → r ≡ Refused f → ⊥
-  never-refused h k (Joining.ListAnswer.pair q u) e = refused-not-pair q p
-  never-refused h k (Joining.ListAnswer.room q n u) e = n (enough h k)
-  never-refused h k (listed q g l b f c s t) e = let z : _≡_ {A = ℕ} 0 1 = cc in omega arith
+  pub never-refused : {limit : ℕ} {lines work lines′ work′ : List ℕ} {r : Run} {f : Refusal} → limit ≤ 1000 → 500000 ≡ length lines
+      → 63001 ≡ length work → ListAnswer a b limit lines work lines′ work′ r → r ≡ Refused f → ⊥
+  never-refused few h k (Joining.ListAnswer.pair q u) e = refused-not-pair q p
+  never-refused few h k (Joining.ListAnswer.room q n u) e = n (enough few h k)
+  never-refused few h k (listed q g l b f c s t) e = let z : _≡_ {A = ℕ} 0 1 = cc in omega arith
 
   pub run-of : {lines work lines′ work′ : List ℕ} {r : Run} {value : ℤ} {n : ℕ} {more : Bool} → ListAnswer a b 1000 lines work lines′ work′ r
       → r ≡ Lines value n more → RunOf a b lines′ value n more

@@ -2,6 +2,7 @@
 -- of 01. Assumes nothing.
 use mathlib.Core.Path.{_≡_, refl, sym, ap, ap₂, _∙_, subst}
 use mathlib.Core.List.{List}
+use native.Mathlib.Omega.{arith}
 use lib.IntN.{ℤ, pos, _+ℤ_, _*ℤ_}
 use lib.Signed.{quotZ}
 use mir.Syntax.{w32, w64}
@@ -45,7 +46,7 @@ enum-told c = search needs
 returns : tie.Need-returns
 returns c =
     absurd
-    (never-refused (c .before .before .before .before .before .before .before .before .before .before .pre .0) (c .before .before .before .before .before .before .before .before .no-strips .ensures) (c .before .before .before .before .before .before .before .no-marks .ensures)
+    (never-refused (c .before .before .before .before .before .before .before .before .before .before .pre .0) (omega arith) (c .before .before .before .before .before .before .before .before .no-strips .ensures) (c .before .before .before .before .before .before .before .no-marks .ensures)
     (c .before .before .before .before .list-best .ensures) (c .enum-told .given .1))
 
 -- the run that was listed
