@@ -1,0 +1,7 @@
+-- The theorems on the blocks of the register file, and the laws behind them.
+mod CheckLaws
+mod TailLaws
+mod CopyLaws
+mod JudgeLaws
+mod SealLaws
+mod OpenLaws
