@@ -5,3 +5,5 @@ mod CopyLaws
 mod JudgeLaws
 mod SealLaws
 mod OpenLaws
+pub mod Exact
+pub mod RoundTrip
