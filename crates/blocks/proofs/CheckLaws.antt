@@ -1,15 +1,14 @@
 -- The check, byte by byte: the weighed sum of a list in two parts is the sum of both, a zero byte adds nothing, and the remainder
 -- may be taken at any step. Assumes nothing.
-use mathlib.Core.Path.{_≡_, refl, sym, ap, ap₂, _∙_, subst}
-use mathlib.Core.Bool.{Bool, _&&_}
+use mathlib.Core.Path.{_≡_, sym, ap, _∙_}
 use mathlib.Core.List.{List, [], _∷_, _++_}
-use Prim.Native.Nat.{ℕ, zero, suc, _+_, _*_, _/_, _%_, _≤_, _<_}
-use native.Mathlib.Nat.{mod-add-mod, mod-lt, add-suc, add-assoc}
+use Prim.Native.Nat.{ℕ, suc, _+_, _*_, _%_, _≤_, _<_}
+use native.Mathlib.Nat.{mod-add-mod, mod-lt, add-assoc}
 use native.Mathlib.Numerals.{add-one}
 use native.Mathlib.Omega.{arith}
-use lib.ListN.{length, getD, take, drop}
+use lib.ListN.{length, getD, take}
 use lib.Seq.{take-suc, take-all, length-take-le}
-use Rattle.blocks.specs.Blocks.{weighed, checkOf, two}
+use Rattle.blocks.specs.Blocks.{weighed, checkOf}
 
 -- ---- the weighed sum
 

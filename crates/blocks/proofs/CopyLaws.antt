@@ -1,12 +1,12 @@
 -- A block's contents copied: the list with zeros behind it has at each place what the list has, which is 0 past its end; so 508
 -- bytes that are read one by one are the padded part. A writer that is lent the part behind what is written writes at the front of
 -- the whole. Assumes nothing.
-use mathlib.Core.Path.{_≡_, refl, sym, ap, ap₂, _∙_, subst}
-use mathlib.Core.List.{List, [], _∷_, _++_, append-assoc, append-nil}
-use Prim.Native.Nat.{ℕ, zero, suc, _+_, _*_, _-_, _≤_, _<_}
+use mathlib.Core.Path.{_≡_, refl, sym, ap, ap₂, _∙_}
+use mathlib.Core.List.{List, [], _∷_, _++_, append-assoc}
+use Prim.Native.Nat.{ℕ, zero, suc, _+_, _-_, _≤_, _<_}
 use native.Mathlib.Numerals.{add-one}
 use native.Mathlib.Omega.{arith}
-use lib.ListN.{length, getD, take, drop, set, replicate, length-append, length-take, length-drop, length-set, length-replicate}
+use lib.ListN.{length, getD, take, drop, set, replicate, length-append, length-take, length-set, length-replicate}
 use lib.Seq.{take-all, take-at, drop-at, drop-drop, drop-cons, set-at, append-snoc, take-suc, length-take-le, getD-take}
 use borrow.Rule.Slice.PartMut.{putMid, same-len-mid}
 use Rattle.whole.proofs.Parts.{part-lent, part-back}
@@ -78,9 +78,6 @@ behind n l = take (length l - n) (drop n l)
 
 abbrev pub back : ℕ → List ℕ → List ℕ → List ℕ
 back n l p = putMid n (length l - n) l p
-
-pub behind-long : (n : ℕ) (l : List ℕ) → length (behind n l) ≡ length l - n
-behind-long n l = ap length (part-lent n l) ∙ length-drop n l
 
 pub filled-more : {us vs old l p : List ℕ} (n : ℕ) → Filled us old l → length us ≡ n → Filled vs (behind n l) p
     → Filled (us ++ vs) old (back n l p)

@@ -3,9 +3,8 @@
 use mathlib.Core.Path.{_≡_, refl, sym, ap, _∙_, subst}
 use mathlib.Core.Logic.{_↔_}
 use mathlib.Core.List.{List}
-use Prim.Native.Nat.{ℕ, _*_, _≤_, _<_}
+use Prim.Native.Nat.{ℕ, _≤_, _<_}
 use native.Mathlib.Omega.{arith}
-use lib.ListN.{length}
 use lib.Seq.{ext-getD}
 use Rattle.fault.specs.declared.Fault.the-variants.{Check}
 use Rattle.trace.specs.Pair.{at}
@@ -14,7 +13,6 @@ use Rattle.whole.proofs.Stages.{lowest-same}
 use Rattle.blocks.specs.declared.BlocksJudgement.{BlocksJudgement}
 use Rattle.blocks.specs.declared.BlocksJudgement.the-variants as blocks-are
 use Rattle.blocks.specs.declared.Sealing.{Sealing}
-use Rattle.blocks.specs.Blocks.{blocksFor}
 use Rattle.blocks.specs.Faults.{WholeBlocks, CheckFault, Sound, BlocksJudged, block, check, sound, SealAnswer, room, sealed}
 use Rattle.blocks.specs.Opened.{Opened}
 

@@ -4,13 +4,13 @@
 use mathlib.Core.Path.{_≡_, refl, sym, ap, ap₂, _∙_, subst}
 use mathlib.Core.Logic.{_⊎_, inl, inr}
 use mathlib.Core.List.{List, [], _∷_, _++_, append-nil, List-discrete}
-use Prim.Native.Nat.{ℕ, zero, suc, _+_, _*_, _-_, _/_, _%_, _≤_, _<_}
+use Prim.Native.Nat.{ℕ, zero, suc, _+_, _*_, _-_, _/_, _≤_, _<_}
 use native.Mathlib.Decide.{ℕ-discrete}
 use native.Mathlib.Omega.{arith}
 use lib.ListN.{length, getD, take, drop, replicate, length-append, length-take, length-drop, length-replicate, take-append-drop, getD-replicate, List·getD-append, List·getD-eq-default}
 use lib.Seq.{take-at, drop-at, take-append-le, take-take, drop-drop, length-take-le, getD-append-add, getD-take, getD-drop, ext-getD}
-use Rattle.blocks.specs.Blocks.{tailOf, two, padded, blockOf, sealed, blocksFor, fileOf, blockAt, contentsAt, contentsOf}
-use Rattle.blocks.specs.Faults.{WholeBlocks, CheckFault, Sound}
+use Rattle.blocks.specs.Blocks.{tailOf, padded, blockOf, sealed, blocksFor, fileOf, blockAt, contentsAt, contentsOf}
+use Rattle.blocks.specs.Faults.{CheckFault, Sound}
 use Rattle.blocks.specs.Opened.{placeOf, Opened}
 use Rattle.blocks.proofs.CopyLaws.{zeros-behind, part-long, part-at}
 use Rattle.blocks.proofs.SealLaws.{block-long, sealed-long}
@@ -18,20 +18,29 @@ use Rattle.blocks.proofs.OpenLaws.{less-or-not}
 
 -- ---- a block by its number
 
--- what stands behind the contents of block b is right, where that block has the number c
-abbrev pub RightAs : ℕ → List ℕ → ℕ → Type 0
-RightAs c f b = drop 508 (blockAt f b) ≡ tailOf c (contentsAt f b)
+-- what stands behind the contents of a block with the number c is right
+abbrev pub Right : ℕ → List ℕ → Type 0
+Right c x = drop 508 x ≡ tailOf c (take 508 x)
 
 -- no fault is to be right, since lists of numbers can be compared
-pub block-right : {f : List ℕ} {b : ℕ} → (CheckFault f b → ⊥) → RightAs b f b
+block-right : {f : List ℕ} {b : ℕ} → (CheckFault f b → ⊥) → Right b (blockAt f b)
+unfolding contentsAt
 block-right {f} {b} n = go (List-discrete ℕ-discrete (drop 508 (blockAt f b)) (tailOf b (contentsAt f b)))
   where
-    go : Dec (RightAs b f b) → RightAs b f b
+    go : Dec (Right b (blockAt f b)) → Right b (blockAt f b)
     go (yes e) = e
     go (no d) = absurd (n (record { wrong = d }))
 
-pub sound-right : {f : List ℕ} {n : ℕ} → Sound f n → (b : ℕ) → b < n → RightAs b f b
+pub sound-right : {f : List ℕ} {n : ℕ} → Sound f n → (b : ℕ) → b < n → Right b (blockAt f b)
 sound-right s b h = block-right (s .checks b h)
+
+pub right-fault : (f : List ℕ) (b : ℕ) → Right b (blockAt f b) → CheckFault f b → ⊥
+unfolding contentsAt
+right-fault f b r w = w .wrong r
+
+pub wrong-fault : (f : List ℕ) (b : ℕ) → (Right b (blockAt f b) → ⊥) → CheckFault f b
+unfolding contentsAt
+wrong-fault f b w = record { wrong = w }
 
 -- the next block is the first but for 512 bytes
 pub block-next : (f : List ℕ) (b : ℕ) → blockAt f (suc b) ≡ blockAt (drop 512 f) b
@@ -75,8 +84,7 @@ block-parts c l =
     drop-at p (tailOf c p) 508 (part-long l) ∙ ap (tailOf c) (sym (block-contents c l))
 
 -- any n blocks of any contents are right
-pub sealed-right : (n : ℕ) (l : List ℕ) (b : ℕ) → b < n → RightAs b (sealed n 0 l) b
-unfolding contentsAt
+pub sealed-right : (n : ℕ) (l : List ℕ) (b : ℕ) → b < n → Right b (blockAt (sealed n 0 l) b)
 sealed-right n l b h =
     let e : 0 + b ≡ b = omega arith in
     let is : blockAt (sealed n 0 l) b ≡ blockOf b (take 508 (drop (508 * b) l)) =
@@ -88,7 +96,7 @@ pub sealed-is-sound : (l : List ℕ) → 1 ≤ blocksFor (length l) → blocksFo
 unfolding fileOf
 sealed-is-sound l some few = record {
   blocks = record { whole = sealed-long (blocksFor (length l)) 0 l; some = some; few = few };
-  checks = λ b h f. f .wrong (sealed-right (blocksFor (length l)) l b h);
+  checks = λ b h. right-fault (fileOf l) b (sealed-right (blocksFor (length l)) l b h);
 }
 
 -- ---- what is sealed can be opened
@@ -172,31 +180,31 @@ full-block c t h =
     let is : t ++ replicate (508 - length t) 0 ≡ t = ap (λ (z : ℕ). t ++ replicate z 0) none ∙ append-nil t in
     ap (λ (p : List ℕ). p ++ tailOf c p) is
 
-first-block : (c : ℕ) (f : List ℕ) → 512 ≤ length f → RightAs c f 0 → blockOf c (take 508 f) ≡ take 512 f
-unfolding blockAt contentsAt
+first-block : (c : ℕ) (f : List ℕ) → 512 ≤ length f → Right c (blockAt f 0) → blockOf c (take 508 f) ≡ take 512 f
+unfolding blockAt
 first-block c f h r =
     let front : take 508 (take 512 f) ≡ take 508 f = take-take 508 512 f (omega arith) in
     full-block c (take 508 f) (length-take-le 508 f (omega arith))
     ∙ ap₂ _++_ (sym front) (ap (tailOf c) (sym front) ∙ sym r)
     ∙ take-append-drop 508 (take 512 f)
 
-sealed-contents : (n c : ℕ) (f : List ℕ) → length f ≡ 512 * n → ((b : ℕ) → b < n → RightAs (c + b) f b) → sealed n c (contentsOf n f) ≡ f
-unfolding sealed contentsOf contentsAt
+sealed-contents : (n c : ℕ) (f : List ℕ) → length f ≡ 512 * n → ((b : ℕ) → b < n → Right (c + b) (blockAt f b)) → sealed n c (contentsOf n f) ≡ f
+unfolding sealed contentsOf
 sealed-contents zero c f h r = no-bytes f h
 sealed-contents (suc n) c f h r =
     let e : c + 0 ≡ c = omega arith in
     let t : length (take 508 f) ≡ 508 = length-take-le 508 f (omega arith) in
-    let right : RightAs c f 0 = subst (λ (c : ℕ). RightAs c f 0) e (r 0 (omega arith)) in
+    let right : Right c (blockAt f 0) = subst (λ (c : ℕ). Right c (blockAt f 0)) e (r 0 (omega arith)) in
     ap₂ (λ (x y : List ℕ). blockOf c x ++ sealed n (suc c) y) (take-at (take 508 f) (contentsOf n (drop 512 f)) 508 t)
     (drop-at (take 508 f) (contentsOf n (drop 512 f)) 508 t)
     ∙ ap₂ _++_ (first-block c f (omega arith) right)
     (sealed-contents n (suc c) (drop 512 f) (simp length-drop (omega arith)) (λ b l. next b (r (suc b) (omega arith))))
     ∙ take-append-drop 512 f
   where
-    next : (b : ℕ) → RightAs (c + suc b) f (suc b) → RightAs (suc c + b) (drop 512 f) b
+    next : (b : ℕ) → Right (c + suc b) (blockAt f (suc b)) → Right (suc c + b) (blockAt (drop 512 f) b)
     next b r =
         let e : c + suc b ≡ suc c + b = omega arith in
-        subst (λ (c : ℕ). RightAs c (drop 512 f) b) e
+        subst (λ (c : ℕ). Right c (blockAt (drop 512 f) b)) e
         (subst (λ (x : List ℕ). drop 508 x ≡ tailOf (c + suc b) (take 508 x)) (block-next f b) r)
 
 -- a sound file is sealed again to itself: from its contents, and from them without up to 507 zeros at the end
@@ -211,8 +219,8 @@ open-then-seal-less {f} {n} s l z h e =
     ∙ ap (sealed n 0) (sym e)
     ∙ sealed-contents n 0 f (s .blocks .whole) (λ b k. right b (sound-right s b k))
   where
-    right : (b : ℕ) → RightAs b f b → RightAs (0 + b) f b
-    right b r = let e : b ≡ 0 + b = omega arith in subst (λ (c : ℕ). RightAs c f b) e r
+    right : (b : ℕ) → Right b (blockAt f b) → Right (0 + b) (blockAt f b)
+    right b r = let e : b ≡ 0 + b = omega arith in subst (λ (c : ℕ). Right c (blockAt f b)) e r
 
 pub open-then-seal : {f : List ℕ} {n : ℕ} → Sound f n → fileOf (contentsOf n f) ≡ f
 open-then-seal {f} {n} s = open-then-seal-less s (contentsOf n f) 0 (omega arith) (sym (append-nil (contentsOf n f)))

@@ -1,21 +1,17 @@
 -- Blocks written one after another: one block more stands behind those that are written, and each has 512 bytes. Assumes nothing.
 use mathlib.Core.Path.{_≡_, refl, sym, ap, ap₂, _∙_, subst}
-use mathlib.Core.Bool.{Bool, true, false, _||_}
 use mathlib.Core.List.{List, [], _∷_, _++_, append-assoc, append-nil}
-use Prim.Native.Nat.{ℕ, zero, suc, _+_, _*_, _-_, _/_, _%_, _≤_, _<_}
+use Prim.Native.Nat.{ℕ, zero, suc, _+_, _*_, _/_, _%_, _≤_, _<_}
 use native.Mathlib.Numerals.{add-one}
 use native.Mathlib.Omega.{arith}
-use lib.Dec.{ltb}
-use lib.ListN.{length, getD, take, drop, length-append, length-take, length-drop}
+use lib.ListN.{length, take, drop, length-append}
 use lib.Seq.{take-at, drop-drop}
-use borrow.Author.Tests.{ltb-true, ltb-false, le-ltb}
-use Rattle.whole.proofs.TestLaws.{true≢false, or-false}
 use Rattle.blocks.specs.Blocks.{checkOf, two, tailOf, padded, blockOf, sealed, blocksFor, fileOf}
 use Rattle.blocks.specs.declared.Sealing.the-variants as sealing-is
 use Rattle.blocks.specs.Faults.{SealAnswer}
 use Rattle.blocks.specs.Faults as answers
 use Rattle.blocks.specs.Writing.{Filled}
-use Rattle.blocks.proofs.CopyLaws.{part-long, behind, back, behind-long, back-long, filled-more}
+use Rattle.blocks.proofs.CopyLaws.{part-long, behind, back, back-long, filled-more}
 
 -- ---- one block
 
@@ -91,30 +87,11 @@ module _ {l old new : List ℕ} {blocks b : ℕ} (s : SealSo l blocks b old new)
       let e : b ≡ blocks = omega (arith, s .inside) in
       subst (λ (n : ℕ). Filled (sealed n 0 l) old new) e (s .wrote)
 
--- ---- how many blocks
+-- ---- the answer
 
-abbrev tests : ℕ → Bool
-tests n = ltb n 1 || ltb 49784 n
-
-pub seal-refused : (n : ℕ) → tests n ≡ true → 1 ≤ blocksFor n → blocksFor n ≤ 98 → ⊥
-unfolding blocksFor
-seal-refused n e some few =
-    let a : ltb n 1 ≡ false = le-ltb n 1 (omega arith) in
-    let b : ltb 49784 n ≡ false = le-ltb 49784 n (omega arith) in
-    true≢false (sym e ∙ ap₂ _||_ a b)
-
-pub seal-fits : (n : ℕ) → tests n ≡ false → (1 ≤ blocksFor n) × (blocksFor n ≤ 98)
-unfolding blocksFor
-seal-fits n e =
-    let p = or-false (ltb n 1) (ltb 49784 n) e in
-    let a : 1 ≤ n = ltb-false n 1 (p .0) in
-    let b : n ≤ 49784 = ltb-false 49784 n (p .1) in
-    (omega arith, omega arith)
-
-pub seal-sealed : (l : List ℕ) {old new : List ℕ} → tests (length l) ≡ false → 512 * blocksFor (length l) ≤ length old
+pub seal-sealed : (l : List ℕ) {old new : List ℕ} → 1 ≤ blocksFor (length l) → blocksFor (length l) ≤ 98 → 512 * blocksFor (length l) ≤ length old
     → Filled (sealed (blocksFor (length l)) 0 l) old new → SealAnswer l old new (sealing-is.Blocks (blocksFor (length l)))
 unfolding fileOf
-seal-sealed l {old} {new} t h f =
-    let fits = seal-fits (length l) t in
+seal-sealed l {old} {new} some few h f =
     subst (λ (new : List ℕ). SealAnswer l old new (sealing-is.Blocks (blocksFor (length l))))
-    (sym (f .filled ∙ ap (λ (n : ℕ). fileOf l ++ drop n old) (sealed-long (blocksFor (length l)) 0 l))) (answers.sealed (fits .0) (fits .1) h)
+    (sym (f .filled ∙ ap (λ (n : ℕ). fileOf l ++ drop n old) (sealed-long (blocksFor (length l)) 0 l))) (answers.sealed some few h)

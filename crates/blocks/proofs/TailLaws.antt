@@ -1,12 +1,12 @@
 -- A block in parts: its contents, and the four bytes behind them, which are right exactly if they are the check, low byte first,
 -- and two zeros. Two bytes are a number below 65,536 and leave no other. Assumes nothing.
-use mathlib.Core.Path.{_≡_, refl, sym, ap, ap₂, _∙_, subst}
+use mathlib.Core.Path.{_≡_, refl, sym, ap, ap₂, _∙_}
 use mathlib.Core.Bool.{Bool, not, _&&_}
 use mathlib.Core.List.{List, [], _∷_, _++_}
 use Prim.Native.Nat.{ℕ, zero, suc, _+_, _*_, _-_, _/_, _%_, _≤_, _<_}
 use native.Mathlib.Omega.{arith}
 use lib.Dec.{eqb}
-use lib.ListN.{length, getD, take, drop, set, length-take, length-drop}
+use lib.ListN.{length, getD, take, drop, set}
 use lib.Seq.{take-take, drop-drop, take-nil}
 use Rattle.whole.specs.Tells.{Tells}
 use Rattle.whole.proofs.Telling.{tells-same, tells-eqb, tells-and, tells-not}
@@ -59,9 +59,6 @@ four (a ∷ b ∷ c ∷ d ∷ e ∷ l) h = absurd (more (length l) h)
 -- two bytes are one number
 both : (low high v : ℕ) → low < 256 → high < 256 → low + 256 * high ≡ v → (low ≡ v % 256) × (high ≡ v / 256)
 both low high v l h e = (omega arith, omega arith)
-
-pub two-number : (v : ℕ) → v % 256 + 256 * (v / 256) ≡ v
-two-number v = omega arith
 
 -- so bytes that stand for two numbers stand for one
 pub two-same : (v w : ℕ) (l m : List ℕ) → two v ++ l ≡ two w ++ m → v ≡ w

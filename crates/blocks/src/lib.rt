@@ -1,5 +1,7 @@
 // The blocks of the register file: each with its contents, their check and two zero bytes. Files are judged and opened here, and
 // contents are sealed; what the contents say is the matter of the layer above.
+ghost use mathlib.Core.Path.{_≡_};
+ghost use Rattle.trace.specs.Pair.{at};
 ghost use Rattle.blocks.specs.Faults.{BlocksJudged, SealAnswer};
 ghost use Rattle.blocks.specs.Opened.{Opened};
 use crate::judging::first_wrong;
@@ -32,11 +34,14 @@ pub fn judge_blocks(file: &[u8]) -> BlocksJudgement
     ensures { λ r. ⌜ BlocksJudged (now (file .entry)) r ⌝ }
 {
     let blocks = file.len() / 512;
-    if (file.len() % 512 != 0) | (blocks < 1) | (98 < blocks) {
-        return BlocksJudgement::Refused(Refusal {
-            fault: Fault::Block,
-            place: 0,
-        });
+    if file.len() % 512 != 0 {
+        return no_blocks();
+    }
+    if blocks < 1 {
+        return no_blocks();
+    }
+    if 98 < blocks {
+        return no_blocks();
     }
     let wrong = first_wrong(file, blocks);
     if wrong < blocks {
@@ -46,6 +51,15 @@ pub fn judge_blocks(file: &[u8]) -> BlocksJudgement
         });
     }
     BlocksJudgement::Sound(blocks)
+}
+
+fn no_blocks() -> BlocksJudgement
+    ensures { λ r. ⌜ r ≡ BlocksJudgement.Refused (at Fault.Block 0) ⌝ }
+{
+    BlocksJudgement::Refused(Refusal {
+        fault: Fault::Block,
+        place: 0,
+    })
 }
 
 // The contents of 98 blocks, one after the other. Takes every file: what it does not have is 0.
@@ -63,19 +77,22 @@ pub fn seal(contents: &[u8], out: &mut [u8]) -> Sealing
     ensures { λ r. ⌜ SealAnswer (now (contents .entry)) (now (out .entry)) (now (out .exit)) r ⌝ }
 {
     let long = contents.len();
-    if (long < 1) | (49_784 < long) {
-        return Sealing::Refused(Refusal {
-            fault: Fault::Block,
-            place: 0,
-        });
+    if long < 1 {
+        return not_sealed(Fault::Block);
+    }
+    if 49_784 < long {
+        return not_sealed(Fault::Block);
     }
     let blocks = (long + 507) / 508;
     if out.len() < 512 * blocks {
-        return Sealing::Refused(Refusal {
-            fault: Fault::Room,
-            place: 0,
-        });
+        return not_sealed(Fault::Room);
     }
     put_blocks(contents, out, blocks);
     Sealing::Blocks(blocks)
+}
+
+fn not_sealed(fault: Fault) -> Sealing
+    ensures { λ r. ⌜ r ≡ Sealing.Refused (at fault 0) ⌝ }
+{
+    Sealing::Refused(Refusal { fault, place: 0 })
 }

@@ -1,7 +1,7 @@
 -- The judgement of a stack and of its strips leaves one answer for each input, and "fit" is given exactly to an accepted stack.
 -- Both go by stages. Assumes nothing.
-use mathlib.Core.Path.{_≡_, refl, sym, ap, ap₂, _∙_, subst}
-use mathlib.Core.Logic.{_⊎_, inl, inr, _↔_}
+use mathlib.Core.Path.{_≡_, refl, sym, ap₂, _∙_, subst}
+use mathlib.Core.Logic.{inl, inr, _↔_}
 use mathlib.Core.List.{List}
 use Prim.Native.Nat.{ℕ, suc, _-_, _/_, _%_, _≤_, _<_}
 use native.Mathlib.Omega.{arith}

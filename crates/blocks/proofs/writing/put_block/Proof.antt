@@ -1,5 +1,4 @@
 -- `blocks::writing::put_block` meets its contract: the contents, then their check and two zeros behind them. Assumes nothing.
-use mathlib.Core.Path.{sym, ap, _∙_}
 use Prim.Native.Nat.{_*_}
 use native.Mathlib.Omega.{arith}
 use lib.ListN.{drop, length-take}
