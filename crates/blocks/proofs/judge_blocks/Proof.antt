@@ -3,9 +3,9 @@ use mathlib.Core.Path.{sym, subst}
 use Prim.Native.Nat.{_/_}
 use native.Mathlib.Omega.{arith}
 use lib.ListN.{length}
+use borrow.Author.Needs.{needs}
 use Rattle.whole.proofs.Telling.{sought-lowest, sought-none}
 use Rattle.blocks.specs.Faults.{BlocksJudged, block, check, sound}
-use borrow.Author.Needs.{needs}
 use Rattle.blocks.proofs.judge_blocks.Statement.{statement}
 use Rattle.blocks.proofs.judge_blocks.Tie as tie
 
@@ -34,14 +34,14 @@ returns-4 : tie.Need-returns-4
 returns-4 c =
     let f = c .before .before .before .before .before .before .args .file .now in
     check {n = length f / 512} (record { whole = omega arith; some = omega arith; few = omega arith })
-    (sought-lowest (c .before .first-wrong .ensures) (c .if4 .taken))
+    (sought-lowest (c .before .first-wrong .ensures) (omega arith))
 
 returns-5 : tie.Need-returns-5
 returns-5 c =
     let f = c .before .before .before .before .before .before .args .file .now in
     sound {n = length f / 512} (record {
       blocks = record { whole = omega arith; some = omega arith; few = omega arith };
-      checks = sought-none (c .before .first-wrong .ensures) (c .if4 .left);
+      checks = sought-none (c .before .first-wrong .ensures) (omega arith);
     })
 
 pub judge-blocks-spec : {M : Type 1} → statement M

@@ -1,10 +1,10 @@
 -- `blocks::seal` meets its contract: each `return` is a case of `SealAnswer`. Assumes nothing.
 use mathlib.Core.Path.{sym, subst}
 use native.Mathlib.Omega.{arith}
+use borrow.Author.Needs.{needs}
 use Rattle.blocks.specs.Blocks.{blocksFor}
 use Rattle.blocks.specs.Faults.{SealAnswer, block, room}
 use Rattle.blocks.proofs.SealLaws.{seal-sealed}
-use borrow.Author.Needs.{needs}
 use Rattle.blocks.proofs.seal.Statement.{statement}
 use Rattle.blocks.proofs.seal.Tie as tie
 

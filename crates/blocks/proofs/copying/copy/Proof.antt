@@ -41,14 +41,14 @@ loop-again : tie.Need-loop-again Inv-loop μ-loop
 loop-again c =
     let a = c .before .before .before .before .before .args in
     let k = c .before .before .loop .k in
-    copy-more (c .before .before .loop .inv) _ (c .before .loop-test .taken)
-    (c .byte-at .ensures ∙ sym (part-at (drop (a .at) (a .list .now)) k (c .before .loop-test .taken) ∙ getD-drop (a .at) (a .list .now) k 0))
+    copy-more (c .before .before .loop .inv) _ (omega arith)
+    (c .byte-at .ensures ∙ sym (part-at (drop (a .at) (a .list .now)) k (omega arith) ∙ getD-drop (a .at) (a .list .now) k 0))
 
 same-length : tie.Need-same-length Inv-loop μ-loop
 same-length c = c .before .loop .inv .long
 
 returns : tie.Need-returns Inv-loop μ-loop
-returns c = copy-done (c .before .loop .inv) (c .loop-test .left)
+returns c = copy-done (c .before .loop .inv) (omega arith)
 
 pub copy-spec : {M : Type 1} → statement M
 copy-spec =

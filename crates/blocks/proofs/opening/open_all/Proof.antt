@@ -19,7 +19,7 @@ loop-holds c =
     open-begun (s .args .file .now) (s .args .out .now) (s .pre)
 
 room : (c : tie.In-loop Inv-loop μ-loop) → 508 * c .before .loop .b + 508 ≤ length (c .before .loop .out)
-room c = open-room (c .before .loop .inv) (c .loop-test .taken)
+room c = open-room (c .before .loop .inv) (omega arith)
 
 mul-to : tie.Need-mul-to Inv-loop μ-loop
 mul-to c = omega arith
@@ -55,7 +55,7 @@ same-length : tie.Need-same-length Inv-loop μ-loop
 same-length c = c .before .loop .inv .long ∙ sym (c .before .before .before .before .pre)
 
 returns : tie.Need-returns Inv-loop μ-loop
-returns c = open-done (c .before .loop .inv) (c .loop-test .left)
+returns c = open-done (c .before .loop .inv) (omega arith)
 
 pub open-all-spec : {M : Type 1} → statement M
 open-all-spec =
