@@ -5,15 +5,16 @@ use mathlib.Core.Logic.{_⊎_, inl, inr}
 use mathlib.Core.List.{List}
 use Prim.Native.Nat.{ℕ, suc, _+_, _*_, _-_, _/_, _%_, _≤_, _<_, min}
 use native.Mathlib.Omega.{arith}
-use lib.ListN.{length, getD, set, length-set}
-use lib.Seq.{set-comm}
+use lib.ListN.{length, getD, take, drop, set, length-set}
+use lib.Seq.{set-comm, getD-drop}
 use Rattle.fault.specs.declared.Fault.the-variants.{Check}
 use Rattle.trace.specs.Pair.{at}
 use Rattle.whole.specs.Lowest.{Lowest}
 use Rattle.blocks.specs.declared.BlocksJudgement.{BlocksJudgement}
 use Rattle.blocks.specs.declared.BlocksJudgement.the-variants as blocks-are
-use Rattle.blocks.specs.Blocks.{blockAt}
+use Rattle.blocks.specs.Blocks.{checkOf, two, tailOf, blockAt, contentsAt}
 use Rattle.blocks.specs.Faults.{WholeBlocks, CheckFault, Sound, BlocksJudged, check, sound}
+use Rattle.blocks.proofs.CheckLaws.{check-small}
 use Rattle.blocks.proofs.OpenLaws.{less-or-not}
 use Rattle.blocks.proofs.Exact.{judged-unique}
 use Rattle.blocks.proofs.RoundTrip.{Right, sound-right, right-fault, wrong-fault}
@@ -45,6 +46,24 @@ not-sound {b = b} f m s = other (f (blocks-are.Sound m) (sound s))
     other : blocks-are.Sound m ≡ blocks-are.Refused (at Check b) → ⊥
     other e = let z : _≡_ {A = ℕ} 0 1 = cc in omega arith
 
+-- ---- what is stored
+
+-- the two bytes behind the contents of a block of a sound file are the check, low byte first; so they are no number from 65,521 on
+pub stored-check : {f : List ℕ} {n : ℕ} → Sound f n → (b : ℕ) → b < n
+    → getD f (512 * b + 508) 0 + 256 * getD f (512 * b + 509) 0 ≡ checkOf b (contentsAt f b)
+unfolding tailOf two contentsAt
+stored-check {f} s b h =
+    let v = checkOf b (take 508 (blockAt f b)) in
+    let low : getD f (512 * b + 508) 0 ≡ v % 256 = byte 0 (omega arith) ∙ ap (λ (l : List ℕ). getD l 0 0) (sound-right s b h) in
+    let high : getD f (512 * b + 509) 0 ≡ v / 256 = byte 1 (omega arith) ∙ ap (λ (l : List ℕ). getD l 1 0) (sound-right s b h) in
+    omega arith
+  where
+    byte : (i : ℕ) → i < 4 → getD f (512 * b + (508 + i)) 0 ≡ getD (drop 508 (blockAt f b)) i 0
+    byte i l = sym (getD-drop 508 (blockAt f b) i 0 ∙ block-at f b (508 + i) (omega arith))
+
+pub stored-below : {f : List ℕ} {n : ℕ} → Sound f n → (b : ℕ) → b < n → getD f (512 * b + 508) 0 + 256 * getD f (512 * b + 509) 0 < 65521
+stored-below {f} s b h = omega (arith, stored-check s b h, check-small b (contentsAt f b))
+
 -- ---- one byte changed
 
 module _ {f : List ℕ} {n : ℕ} (s : Sound f n) (i v : ℕ) (inside : i < length f) (old : getD f i 0 < 256) (new : v < 256)
@@ -73,6 +92,7 @@ module _ {f : List ℕ} {n : ℕ} (s : Sound f n) (i v : ℕ) (inside : i < leng
 
 -- ---- two bytes exchanged
 
+-- a list with what stands at i and at j exchanged
 unfoldable pub exchanged : List ℕ → ℕ → ℕ → List ℕ
 exchanged f i j = set (set f i (getD f j 0)) j (getD f i 0)
 

@@ -9,12 +9,15 @@ use native.Mathlib.Decide.{ℕ-discrete}
 use native.Mathlib.Omega.{arith}
 use lib.ListN.{length, getD, take, drop, replicate, length-append, length-take, length-drop, length-replicate, take-append-drop, getD-replicate, List·getD-append, List·getD-eq-default}
 use lib.Seq.{take-at, drop-at, take-append-le, take-take, drop-drop, length-take-le, getD-append-add, getD-take, getD-drop, ext-getD}
+use Rattle.blocks.specs.declared.BlocksJudgement.{BlocksJudgement}
+use Rattle.blocks.specs.declared.BlocksJudgement.the-variants as blocks-are
 use Rattle.blocks.specs.Blocks.{tailOf, padded, blockOf, sealed, blocksFor, fileOf, blockAt, contentsAt, contentsOf}
-use Rattle.blocks.specs.Faults.{CheckFault, Sound}
+use Rattle.blocks.specs.Faults.{CheckFault, Sound, BlocksJudged, sound}
 use Rattle.blocks.specs.Opened.{placeOf, Opened}
 use Rattle.blocks.proofs.CopyLaws.{zeros-behind, part-long, part-at}
 use Rattle.blocks.proofs.SealLaws.{block-long, sealed-long}
 use Rattle.blocks.proofs.OpenLaws.{less-or-not}
+use Rattle.blocks.proofs.Exact.{judged-unique}
 
 -- ---- a block by its number
 
@@ -98,6 +101,11 @@ sealed-is-sound l some few = record {
   blocks = record { whole = sealed-long (blocksFor (length l)) 0 l; some = some; few = few };
   checks = λ b h. right-fault (fileOf l) b (sealed-right (blocksFor (length l)) l b h);
 }
+
+-- it is judged sound
+pub sealed-judged : (l : List ℕ) → 1 ≤ blocksFor (length l) → blocksFor (length l) ≤ 98 → {r : BlocksJudgement} → BlocksJudged (fileOf l) r
+    → r ≡ blocks-are.Sound (blocksFor (length l))
+sealed-judged l some few j = judged-unique j (sound (sealed-is-sound l some few))
 
 -- ---- what is sealed can be opened
 

@@ -1,4 +1,4 @@
-// What judging, opening and sealing share: a byte by its number, and a block's contents copied.
+// What opening and sealing share: a byte by its number, and a block's contents copied.
 ghost use mathlib.Core.Path.{_≡_};
 ghost use Prim.Native.Nat.{_≤_};
 ghost use lib.ListN.{length, getD, take, drop};
