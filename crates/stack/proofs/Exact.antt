@@ -1,14 +1,14 @@
 -- The judgement of a stack and of its strips leaves one answer for each input, and "fit" is given exactly to an accepted stack.
--- A judgement goes by stages: at each either its fault is there, which settles the answer, or there is none, and the next
--- stages decide. Two answers that part at a stage contradict each other there. Assumes nothing.
-use mathlib.Core.Path.{_≡_, refl, sym, ap, ap₂, _∙_, subst}
-use mathlib.Core.Bool.{Bool, true, false}
-use mathlib.Core.Logic.{_⊎_, inl, inr, _↔_}
+-- Both go by stages. Assumes nothing.
+use mathlib.Core.Path.{_≡_, refl, sym, ap₂, _∙_, subst}
+use mathlib.Core.Logic.{inl, inr, _↔_}
 use mathlib.Core.List.{List}
 use Prim.Native.Nat.{ℕ, suc, _-_, _/_, _%_, _≤_, _<_}
 use native.Mathlib.Omega.{arith}
 use lib.IntN.{ℤ}
 use lib.ListN.{length}
+use Rattle.whole.specs.Lowest.{Lowest}
+use Rattle.whole.proofs.Stages.{Once, Stage, stage, only, lowest-same, LowestAt, lowest}
 use Rattle.fault.specs.declared.Fault.{Fault}
 use Rattle.fault.specs.declared.Refusal.{Refusal}
 use Rattle.fault.specs.declared.Fault.the-variants.{Layers, Shape, Span, Planes, Strip}
@@ -25,48 +25,14 @@ use Rattle.stack.specs.declared.StackJudgement.the-variants.{Fit, Refuse
 use Rattle.stack.specs.declared.StripsJudgement.{StripsJudgement}
 use Rattle.stack.specs.declared.StripsJudgement.the-variants as strips-are
 use Rattle.stack.specs.Entries.{entry, traceOf, steps}
-use Rattle.stack.specs.Faults.{Lowest, Breaks, LayersRight, Spanned, TraceFault, PlaneFault, AcceptedStack, StackJudged}
+use Rattle.stack.specs.Faults.{Breaks, LayersRight, Spanned, TraceFault, PlaneFault, AcceptedStack, StackJudged}
 use Rattle.stack.specs.Faults.{layers, shape, span, trace, planes, fit}
 use Rattle.stack.specs.Strips.{BandFault, StripsRight, StripsJudged, wrong, band, whole, StripsAnswered, over, judged}
 use Rattle.stack.specs.Gathered.{Gathers}
 use Rattle.stack.specs.Laid.{laid}
-use Rattle.stack.specs.Tells.{Tells}
 use Rattle.stack.proofs.Judging.{accepted-unfaulted}
 use Rattle.stack.proofs.Laying.{laid-gathers}
 use Rattle.stack.proofs.StackLaws.{spanned-inside, traceOf-even}
-
--- ---- stages
-
--- what leaves one answer at most
-abbrev Once : {R : Type 0} → (R → Type 0) → Type 0
-Once {R} F = (r s : R) → F r → F s → r ≡ s
-
--- a stage: its fault, or none, and then the rest
-abbrev Stage : Type 0 → Type 0 → Type 0 → Type 0
-Stage F N G = F ⊎ (N × G)
-
-stage : {R : Type 0} {F G : R → Type 0} {N : Type 0} → Once F → ((r : R) → F r → N → ⊥) → Once G → Once (λ r. Stage (F r) N (G r))
-stage f n g r s (inl p) (inl q) = f r s p q
-stage f n g r s (inl p) (inr q) = absurd (n r p (q .0))
-stage f n g r s (inr p) (inl q) = absurd (n s q (p .0))
-stage f n g r s (inr p) (inr q) = g r s (p .1) (q .1)
-
--- one answer, whatever else is known
-only : {R : Type 0} {P : Type 0} {a : R} → Once (λ r. P × (r ≡ a))
-only r s p q = p .1 ∙ sym (q .1)
-
-lowest-same : {P : ℕ → Type 0} {n j k : ℕ} → Lowest P n j → Lowest P n k → j ≡ k
-lowest-same {j = j} {k = k} p q =
-    let above : j < k → ⊥ = λ h. q .none j h (p .here) in
-    let below : k < j → ⊥ = λ h. p .none k h (q .here) in
-    omega arith
-
--- an answer at the lowest place at fault
-abbrev LowestAt : {R : Type 0} → (ℕ → Type 0) → ℕ → (ℕ → R) → R → Type 0
-LowestAt P n f r = (k : ℕ) × Lowest P n k × (r ≡ f k)
-
-lowest : {R : Type 0} {P : ℕ → Type 0} {n : ℕ} {f : ℕ → R} → Once (LowestAt P n f)
-lowest {f = f} r s p q = p .2 ∙ ap f (lowest-same (p .1) (q .1)) ∙ sym (q .2)
 
 -- ---- a stack
 
@@ -205,9 +171,3 @@ judge-stack-unique st c p q = stack-judged-unique (p (laid st) (laid-gathers st)
 pub judge-strips-unique : (st : Stack) (l : List ℕ) {r s : StripsJudgement} → ((es : List Layer) → Gathers st es → StripsAnswered es l r)
     → ((es : List Layer) → Gathers st es → StripsAnswered es l s) → r ≡ s
 judge-strips-unique st l p q = strips-answered-unique (p (laid st) (laid-gathers st)) (q (laid st) (laid-gathers st))
-
--- of `is_strip`, and of any test
-pub tells-unique : {P : Type 0} {r s : Bool} → Tells P r → Tells P s → r ≡ s
-tells-unique {r = true} p q = sym (q .when (p .yes refl))
-tells-unique {r = false} {s = true} p q = p .when (q .yes refl)
-tells-unique {r = false} {s = false} p q = refl

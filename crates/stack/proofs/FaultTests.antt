@@ -11,13 +11,13 @@ use lib.Dec.{eqb}
 use lib.IntN.{ℤ}
 use lib.ListN.{length}
 use lib.Signed.{leZ, _≤ℤ_}
+use Rattle.whole.specs.Tells.{Tells}
+use Rattle.whole.proofs.Telling.{tells-same, tells-eqb, tells-not, tells-and, tells-or}
 use Rattle.whole.specs.Between.{Within}
 use Rattle.whole.proofs.Order.{leZ-true, le-leZ}
 use Rattle.stack.specs.declared.Layer.{Layer}
 use Rattle.stack.specs.Entries.{entry, stop, start}
 use Rattle.stack.specs.Faults.{Breaks, starts, ends, PlaneFault, outside, notAbove}
-use Rattle.stack.specs.Tells.{Tells}
-use Rattle.stack.proofs.Telling.{tells-same, tells-eqb, tells-not, tells-and, tells-or}
 
 pred : (k : ℕ) → suc k - 1 ≡ k
 pred k = omega arith

@@ -2,7 +2,6 @@
 pub mod StackLaws
 pub mod Exact
 pub mod Laying
-pub mod Telling
 mod StripLaws
 mod FaultTests
 mod Judging

@@ -9,6 +9,8 @@ use native.Mathlib.Omega.{arith}
 use lib.Dec.{eqb}
 use lib.ListN.{length, getD, take, drop}
 use lib.Seq.{take-suc, take-all}
+use Rattle.whole.specs.Tells.{Tells}
+use Rattle.whole.proofs.Telling.{tells-same, tells-eqb, tells-and}
 use Rattle.ways.specs.Strip.{Step, A, B, stepsA, stepsB}
 use Rattle.ways.proofs.Way.{steps-append}
 use Rattle.strip.specs.Bytes.{byteOf, bytes, IsStrip}
@@ -17,10 +19,8 @@ use Rattle.stack.specs.declared.Stack.{Stack}
 use Rattle.stack.specs.Entries.{entry, steps, bandStart}
 use Rattle.stack.specs.Strips.{bandPart, BandStrip}
 use Rattle.stack.specs.Laid.{laid}
-use Rattle.stack.specs.Tells.{Tells}
 use Rattle.stack.proofs.Laying.{count-at, count-above, laid-fits}
 use Rattle.stack.proofs.StackLaws.{part-from}
-use Rattle.stack.proofs.Telling.{tells-same, tells-eqb, tells-and}
 
 -- no byte, no step
 pub strip-none : IsStrip 0 0 []

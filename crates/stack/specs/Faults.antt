@@ -6,6 +6,7 @@ use lib.ListN.{length}
 use lib.IntN.{ℤ}
 use lib.Signed.{_≤ℤ_}
 use Rattle.whole.specs.Between.{Within}
+use Rattle.whole.specs.Lowest.{Lowest}
 use Rattle.fault.specs.declared.Fault.{Fault}
 use Rattle.fault.specs.declared.Fault.the-variants.{Layers, Shape, Span, Planes}
 use Rattle.trace.specs.declared.Judgement.the-variants.{Unfit}
@@ -16,12 +17,6 @@ use Rattle.stack.specs.declared.Layer.{Layer}
 use Rattle.stack.specs.declared.StackJudgement.{StackJudgement}
 use Rattle.stack.specs.declared.StackJudgement.the-variants.{Fit, Refused}
 use Rattle.stack.specs.Entries.{entry, traceOf, stop, start, steps}
-
--- the lowest number below n of which P holds
-pub record Lowest (P : ℕ → Type 0) (n k : ℕ) : Type 0 where
-  pub below : k < n
-  pub here : P k
-  pub none : (j : ℕ) → j < k → P j → ⊥
 
 -- 11: not 2 to 20 layers
 pub record LayersRight (es : List Layer) : Type 0 where

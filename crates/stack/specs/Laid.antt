@@ -1,7 +1,6 @@
--- Inner: the entries that a Stack's arrays hold, and what a search for the lowest place at fault answers. No public contract
--- cites this file.
+-- Inner: the entries that a Stack's arrays hold. No public contract cites this file.
 use mathlib.Core.List.{List, [], _∷_}
-use Prim.Native.Nat.{ℕ, zero, suc, _≤_, _<_}
+use Prim.Native.Nat.{ℕ, zero, suc}
 use lib.IntN.{pos}
 use lib.ListN.{getD}
 use Rattle.stack.specs.declared.Layer.{Layer}
@@ -17,13 +16,3 @@ layerAt st k = record { plane = getD (st .plane) k (pos 0); first = getD (st .fi
 
 unfoldable pub laid : Stack → List Layer
 laid st = upTo (st .layers) (layerAt st)
-
--- a search below n came to r: all that it passed is Good, and r, if it is below n, is Bad
-pub record Sought (Good Bad : ℕ → Type 0) (n r : ℕ) : Type 0 where
-  pub within : r ≤ n
-  pub passed : (j : ℕ) → j < r → Good j
-  pub here : r < n → Bad r
-
--- r is the lowest number below n of which P holds, or n where there is none
-abbrev pub FirstOf : (ℕ → Type 0) → ℕ → ℕ → Type 0
-FirstOf P n r = Sought (λ j. P j → ⊥) P n r

@@ -3,5 +3,4 @@ pub mod Entries
 pub mod Faults
 pub mod Strips
 pub mod Gathered
-pub mod Tells
 pub mod Laid

@@ -4,6 +4,8 @@ ghost use mathlib.Core.List.{List};
 ghost use Prim.Native.Nat.{ℕ, suc, _+_, _-_, _*_, _/_, _%_, _≤_, _<_, min};
 ghost use lib.ListN.{length};
 ghost use Rattle.whole.specs.Between.{Within};
+ghost use Rattle.whole.specs.Lowest.{Sought, FirstOf};
+ghost use Rattle.whole.specs.Tells.{Tells};
 ghost use Rattle.trace.specs.Judged.{judged};
 ghost use Rattle.trace.specs.Faults.{Accepted};
 ghost use Rattle.strip.specs.Bytes.{IsStrip};
@@ -12,8 +14,7 @@ ghost use Rattle.stack.specs.Entries.{entry, traceOf, stop, start, steps
 ghost use Rattle.stack.specs.Faults.{Breaks, PlaneFault, LayersRight, Spanned, StackJudged};
 ghost use Rattle.stack.specs.Strips.{BandStrip, BandFault, StripsAnswered};
 ghost use Rattle.stack.specs.Gathered.{Gathers};
-ghost use Rattle.stack.specs.Tells.{Tells};
-ghost use Rattle.stack.specs.Laid.{laid, Sought, FirstOf};
+ghost use Rattle.stack.specs.Laid.{laid};
 use fault::Fault;
 use fault::Refusal;
 use trace::Judgement;

@@ -1,4 +1,5 @@
--- Laws that every crate may cite: the whole numbers, their order and bounds, and what the machine's signed words hold.
+-- Laws that every crate may cite: the whole numbers, their order and bounds, what the machine's signed words hold, and tests and
+-- judgements.
 pub mod Linear
 pub mod Order
 pub mod TestLaws
@@ -6,3 +7,5 @@ pub mod Bounds
 pub mod Machine
 pub mod Halves
 pub mod Parts
+pub mod Telling
+pub mod Stages

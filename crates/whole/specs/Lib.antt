@@ -1,3 +1,5 @@
 pub mod Between
 pub mod Sum
 pub mod Tests
+pub mod Lowest
+pub mod Tells

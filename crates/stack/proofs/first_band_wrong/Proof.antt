@@ -5,12 +5,12 @@ use Prim.Native.Nat.{ℕ, _-_, _≤_, _<_}
 use native.Mathlib.Omega.{arith}
 use borrow.Author.Count.{below-none, below-more}
 use borrow.Author.Tests.{not-true, not-false}
+use Rattle.whole.proofs.Telling.{told-not, found, ended}
 use Rattle.stack.specs.Entries.{bandStart}
 use Rattle.stack.specs.Strips.{BandStrip}
 use Rattle.stack.specs.Laid.{laid}
 use Rattle.stack.proofs.Laying.{laid-long, laid-fits}
 use Rattle.stack.proofs.StackLaws.{band-next}
-use Rattle.stack.proofs.Telling.{told-not, found, ended}
 use Rattle.stack.proofs.first_band_wrong.Statement.{statement}
 use Rattle.stack.proofs.first_band_wrong.Tie as tie
 

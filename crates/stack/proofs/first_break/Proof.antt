@@ -3,10 +3,10 @@ use Prim.Native.Nat.{ℕ, _-_, _≤_, _<_}
 use native.Mathlib.Omega.{arith}
 use borrow.Author.Count.{below-more}
 use borrow.Author.Needs.{needs}
+use Rattle.whole.proofs.Telling.{told-not, found, ended}
 use Rattle.stack.specs.Faults.{Breaks}
 use Rattle.stack.specs.Laid.{laid}
 use Rattle.stack.proofs.Laying.{laid-long}
-use Rattle.stack.proofs.Telling.{told-not, found, ended}
 use Rattle.stack.proofs.first_break.Statement.{statement}
 use Rattle.stack.proofs.first_break.Tie as tie
 

@@ -5,8 +5,8 @@ use mathlib.Core.Logic.{⊎-elim}
 use Prim.Native.Nat.{_+_, _-_, _≤_}
 use native.Mathlib.Omega.{arith}
 use lib.ListN.{length, take}
+use Rattle.whole.proofs.Telling.{tells-false}
 use Rattle.strip.specs.Bytes.{IsStrip}
-use Rattle.stack.proofs.Telling.{tells-false}
 use Rattle.stack.proofs.StripLaws.{strip-none, strip-a, strip-b, strip-small, strip-tells, strip-whole}
 use Rattle.stack.proofs.is_strip.Statement.{statement}
 use Rattle.stack.proofs.is_strip.Tie as tie

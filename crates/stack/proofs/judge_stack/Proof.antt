@@ -1,11 +1,11 @@
 -- `stack::judge_stack` meets its contract: each `return` is a case of 01's table, for the entries that the arrays hold and so for
 -- all that the stack gathers. Assumes nothing.
 use native.Mathlib.Omega.{arith}
+use Rattle.whole.proofs.Telling.{sought-lowest, sought-none}
 use Rattle.stack.specs.Faults.{LayersRight, shape, span}
 use Rattle.stack.specs.Laid.{laid}
 use Rattle.stack.proofs.Judging.{layers-refused, layers-right}
 use Rattle.stack.proofs.Laying.{laid-long, laid-twenty, for-gathered}
-use Rattle.stack.proofs.Telling.{sought-lowest, sought-none}
 use Rattle.stack.proofs.judge_stack.Statement.{statement}
 use Rattle.stack.proofs.judge_stack.Tie as tie
 

@@ -1,7 +1,7 @@
 -- `stack::stops_at` meets its contract: the count is what lies between the first point and the end. Assumes nothing.
 use native.Mathlib.Omega.{arith}
 use borrow.Author.Needs.{needs}
-use Rattle.stack.proofs.Telling.{tells-false}
+use Rattle.whole.proofs.Telling.{tells-false}
 use Rattle.stack.proofs.FaultTests.{stops-tells}
 use Rattle.stack.proofs.stops_at.Statement.{statement}
 use Rattle.stack.proofs.stops_at.Tie as tie

@@ -7,10 +7,9 @@ use Prim.Native.Nat.{ℕ, _≤_, _<_}
 use native.Mathlib.Omega.{arith}
 use lib.Dec.{eqb}
 use borrow.Author.Tests.{eqb-true, eq-eqb, not-true}
 use Rattle.whole.proofs.TestLaws.{true≢false, and-true, not-true-false}
-use Rattle.stack.specs.Faults.{Lowest}
-use Rattle.stack.specs.Laid.{Sought, FirstOf}
-use Rattle.stack.specs.Tells.{Tells}
+use Rattle.whole.specs.Lowest.{Lowest, Sought, FirstOf}
+use Rattle.whole.specs.Tells.{Tells}
 
 -- ---- tests
 
