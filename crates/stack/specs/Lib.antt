@@ -3,5 +3,6 @@ pub mod Entries
 pub mod Faults
 pub mod Strips
 pub mod Gathered
+pub mod Refusals
 pub mod Tells
 pub mod Laid
