@@ -1,6 +1,6 @@
 -- What the entry point answers once the stack is accepted: ROOM where a slice is too short, else the strips of all bands. It holds of
 -- the entries that the arrays hold, and so of all that the stack gathers. Assumes nothing.
-use mathlib.Core.Path.{_≡_, sym, ap, _∙_, subst}
+use mathlib.Core.Path.{_≡_, sym, subst}
 use mathlib.Core.List.{List}
 use Prim.Native.Nat.{ℕ, _≤_, _<_}
 use native.Mathlib.Omega.{arith}
@@ -12,7 +12,6 @@ use Rattle.stack.specs.declared.Layer.{Layer}
 use Rattle.stack.specs.declared.Stack.{Stack}
 use Rattle.stack.specs.declared.StackJudgement.{StackJudgement}
 use Rattle.stack.specs.declared.StackJudgement.the-variants as stack-is
-use Rattle.stack.specs.Entries.{steps}
 use Rattle.stack.specs.Faults.{AcceptedStack}
 use Rattle.stack.specs.Gathered.{Gathers}
 use Rattle.stack.specs.Laid.{laid}

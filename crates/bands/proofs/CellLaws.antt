@@ -10,7 +10,7 @@ use Rattle.stack.specs.declared.Layer.{Layer}
 use Rattle.stack.specs.declared.Stack.{Stack}
 use Rattle.stack.specs.Entries.{entry}
 use Rattle.stack.specs.Laid.{laid}
-use Rattle.stack.proofs.Laying.{laid-long, count-at, count-above}
+use Rattle.stack.proofs.Laying.{count-at, count-above}
 use Rattle.bands.specs.Bands.{mostCells}
 use Rattle.bands.specs.Filling.{cells, cellsTo, Sized}
 

@@ -5,14 +5,14 @@
 -- is one, so the bytes agree band by band from the bottom up. Assumes nothing.
 use mathlib.Core.Path.{_≡_, refl, sym, ap, ap₂, _∙_}
 use mathlib.Core.List.{List, _++_}
-use Prim.Native.Nat.{ℕ, zero, suc, _+_, _-_, _≤_, _<_}
+use Prim.Native.Nat.{ℕ, zero, suc, _+_, _-_, _<_}
 use native.Mathlib.Omega.{arith}
 use lib.IntN.{ℤ}
 use lib.ListN.{length, take, drop}
 use lib.Seq.{take-all, take-add}
 use Rattle.fault.specs.declared.Refusal.{Refusal}
 use Rattle.ways.proofs.Unique.{first-unique}
-use Rattle.strip.specs.Bytes.{bytes, IsStrip}
+use Rattle.strip.specs.Bytes.{bytes}
 use Rattle.joining.specs.Answers.{Untouched}
 use Rattle.joining.proofs.Exact.{Same}
 use Rattle.stack.specs.declared.Layer.{Layer}
@@ -27,7 +27,7 @@ use Rattle.stack.proofs.Laying.{laid-gathers}
 use Rattle.stack.proofs.StackLaws.{band-all}
 use Rattle.bands.specs.declared.Banded.{Banded}
 use Rattle.bands.specs.declared.Banded.the-variants as bands-are
-use Rattle.bands.specs.Bands.{BandBest, AllBest, BandsAnswer, stack, room, best}
+use Rattle.bands.specs.Bands.{AllBest, BandsAnswer, stack, room, best}
 use Rattle.bands.proofs.FillLaws.{band-strip}
 
 -- ---- the strips of all bands are one

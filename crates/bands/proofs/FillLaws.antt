@@ -1,14 +1,13 @@
 -- One band after another: what `best` writes at the front of the part from where a band begins is that band's part of the strips, and
 -- leaves the parts below as they were. The loop's invariant says so of the bands that are done. Assumes nothing.
-use mathlib.Core.Path.{_≡_, refl, sym, ap, ap₂, _∙_, subst}
-use mathlib.Core.Logic.{_⊎_, inl, inr}
-use mathlib.Core.List.{List, [], _∷_, _++_, append-assoc}
-use Prim.Native.Nat.{ℕ, zero, suc, _+_, _-_, _*_, _≤_, _<_, max}
+use mathlib.Core.Path.{_≡_, refl, sym, ap, ap₂, _∙_}
+use mathlib.Core.List.{List, [], _++_, append-assoc}
+use Prim.Native.Nat.{ℕ, zero, suc, _+_, _-_, _*_, _≤_, _<_}
 use native.Mathlib.Decide.{ℕ-discrete}
 use native.Mathlib.Numerals.{add-one}
 use native.Mathlib.Omega.{arith}
 use lib.IntN.{ℤ}
-use lib.ListN.{length, take, drop, replicate, length-append, length-drop}
+use lib.ListN.{length, take, drop, length-append, length-drop}
 use lib.Seq.{take-all, take-at, drop-at, drop-drop, take-append-le, drop-append-le}
 use borrow.Rule.Slice.PartMut.{putMid, same-len-mid}
 use Rattle.whole.proofs.Parts.{part-lent, part-back}
@@ -27,10 +26,10 @@ use Rattle.stack.specs.Entries.{entry, traceOf, steps, bandStart}
 use Rattle.stack.specs.Faults.{AcceptedStack}
 use Rattle.stack.specs.Strips.{bandPart}
 use Rattle.stack.specs.Laid.{laid}
-use Rattle.stack.proofs.StackLaws.{traceOf-count, accepted-inside, accepted-count, accepted-steps, band-within, band-all}
-use Rattle.stack.proofs.Laying.{laid-long, laid-twenty, count-at, count-above}
-use Rattle.bands.specs.Bands.{mostCells, EnoughRoom, BandBest, AllBest}
-use Rattle.bands.specs.Filling.{cells, cellsTo, Sized, BandReady, BandFilled, Filled}
+use Rattle.stack.proofs.StackLaws.{traceOf-count, accepted-inside, accepted-count, band-within, band-all}
+use Rattle.stack.proofs.Laying.{laid-long, count-at, count-above}
+use Rattle.bands.specs.Bands.{EnoughRoom, BandBest}
+use Rattle.bands.specs.Filling.{cells, cellsTo, BandReady, BandFilled, Filled}
 use Rattle.bands.proofs.CellLaws.{cells-all, cells-below, cells-within, zeroed, zeroed-twice, zeroed-length}
 
 -- ---- one band
@@ -168,11 +167,8 @@ bands-begun {es} {c} strips work a = record {
 module _ {es : List Layer} {c : List ℤ} {k at : ℕ} {strips₀ work₀ strips work : List ℕ} (a : AcceptedStack es c)
     (m : EnoughRoom es strips₀ work₀) (s : BandsSo es c k at strips₀ work₀ strips work) where
   -- the steps up to the end of band k
-  pub ends-within : suc k < length es → bandStart es (suc k) ≤ length strips
+  ends-within : suc k < length es → bandStart es (suc k) ≤ length strips
   ends-within h = omega (arith, band-within es k h, m .forStrips, s .stripsLong)
-
-  pub ends-small : suc k < length es → bandStart es (suc k) ≤ 9500
-  ends-small h = omega (arith, band-within es k h, accepted-steps a)
 
   pub room-left : suc k < length es → at + (entry es k .count + entry es (suc k) .count) ≤ length strips
   unfolding bandStart

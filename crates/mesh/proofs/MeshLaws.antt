@@ -1,6 +1,6 @@
 -- What the entry points answer, from what the judgements say of the entries that the arrays hold to what 01 says of all that the
 -- stack gathers: an answer for over 20 layers is the stack's refusal whatever the entries are. Assumes nothing.
-use mathlib.Core.Path.{_≡_, sym, ap, _∙_, subst}
+use mathlib.Core.Path.{_≡_, sym, subst}
 use mathlib.Core.List.{List}
 use Prim.Native.Nat.{ℕ, _+_, _-_, _*_, _≤_, _<_}
 use native.Mathlib.Omega.{arith}

@@ -1,7 +1,7 @@
 // The layers of a stack that is passed by value.
 ghost use mathlib.Core.Path.{_≡_};
 ghost use Prim.Native.Nat.{suc, _≤_, _<_};
-ghost use Rattle.stack.specs.Entries.{entry, steps, bandStart};
+ghost use Rattle.stack.specs.Entries.{steps, bandStart};
 ghost use Rattle.stack.specs.Laid.{laid};
 ghost use Rattle.mesh.specs.Closed.{triangles};
 ghost use Rattle.mesh.specs.Working.{Sized};

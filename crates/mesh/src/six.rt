@@ -1,8 +1,7 @@
 // Six times the volume, band by band: the band rule's sums stay within 4·10^18, those of the triangles' determinants need not.
 ghost use mathlib.Core.Path.{_≡_};
-ghost use Prim.Native.Nat.{suc, _+_, _*_, _≤_, _<_};
+ghost use Prim.Native.Nat.{suc, _+_, _*_, _<_};
 ghost use lib.IntN.{pos};
-ghost use lib.ListN.{length};
 ghost use lib.Signed.{quotZ};
 ghost use Rattle.whole.specs.Between.{Within};
 ghost use Rattle.trace.specs.Points.{twiceArea};

@@ -5,7 +5,7 @@ use native.Mathlib.Omega.{arith}
 use lib.ListN.{length, length-take, length-drop}
 use Rattle.stack.specs.Laid.{laid}
 use Rattle.stack.proofs.Laying.{laid-long, laid-twenty}
-use Rattle.bands.proofs.FillLaws.{BandsSo, bands-begun, ends-small, room-left, work-left, bands-more, bands-done}
+use Rattle.bands.proofs.FillLaws.{BandsSo, bands-begun, room-left, work-left, bands-more, bands-done}
 use Rattle.bands.proofs.put_strips.Statement.{statement}
 use Rattle.bands.proofs.put_strips.Tie as tie
 
