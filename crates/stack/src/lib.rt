@@ -27,6 +27,7 @@ pub struct Layer {
 }
 
 // The entries of a stack, by value: the first 20 of them, and how many were handed in.
+#[repr(C)]
 pub struct Stack {
     pub plane: [i32; 20],
     pub first: [usize; 20],
