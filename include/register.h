@@ -29,6 +29,40 @@ struct register_run_answer {
     bool more;    /* whether some remain */
 };
 
+/* A stack over one common coordinate list, by value: plane, first point and number of points of each layer from the bottom, and the
+ * number of layers. Of more than 20 layers only their number counts, which is refused; arrays past `layers` are not looked at. */
+struct register_stack {
+    int32_t plane[20];
+    size_t first[20];
+    size_t count[20];
+    size_t layers;
+};
+
+struct register_stack_answer {
+    uint8_t number;
+    size_t place;
+    size_t points; /* of all layers */
+    size_t steps;  /* of all bands */
+};
+
+struct register_strips_answer {
+    uint8_t number;
+    size_t place;
+};
+
+struct register_steps_answer {
+    uint8_t number;
+    size_t place;
+    size_t steps; /* how many were written */
+};
+
+struct register_mesh_answer {
+    uint8_t number;
+    size_t place;
+    size_t triangles; /* how many were written */
+    int64_t six;      /* six times the volume */
+};
+
 /* Coordinates are x then y; a strip is a byte a step, 0 for A and 1 for B. */
 struct register_trace_answer register_judge(const int32_t *coords, size_t coords_len);
 
@@ -45,5 +79,24 @@ struct register_answer register_next(const int32_t *a, size_t a_len, const int32
 /* m+n bytes of lines for each of limit strips, and (m+1)(n+1) work bytes */
 struct register_run_answer register_list_best(const int32_t *a, size_t a_len, const int32_t *b, size_t b_len, uint8_t *lines,
                                               size_t lines_len, uint8_t *work, size_t work_len, size_t limit);
+
+/* Of a stack: 11, 1, 12, then trace by trace 2 to 6, then 7. */
+struct register_stack_answer register_judge_stack(struct register_stack stack, const int32_t *coords, size_t coords_len);
+
+/* The strips of all bands from the bottom, one after another: 9 at 0 if they do not fill their slice (or there are over 20 layers), else
+ * at the lowest band whose part is no strip. The stack itself is not judged. */
+struct register_strips_answer register_judge_strips(struct register_stack stack, const uint8_t *strips, size_t strips_len);
+
+/* The first best strip of every band. A byte for each step of all bands, and the (m+1)(n+1) work bytes of the band that needs most. */
+struct register_steps_answer register_best_strips(struct register_stack stack, const int32_t *coords, size_t coords_len, uint8_t *strips,
+                                                  size_t strips_len, uint8_t *work, size_t work_len);
+
+/* Six times the volume: the stack is judged, then the strips. */
+struct register_answer register_volume(struct register_stack stack, const int32_t *coords, size_t coords_len, const uint8_t *strips,
+                                       size_t strips_len);
+
+/* The closed triangle list: three numbers a triangle, of which there are one a step and two fewer than the points of either end layer. */
+struct register_mesh_answer register_triangles(struct register_stack stack, const int32_t *coords, size_t coords_len,
+                                               const uint8_t *strips, size_t strips_len, uint32_t *out, size_t out_len);
 
 #endif

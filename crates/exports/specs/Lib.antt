@@ -1,2 +1,3 @@
 -- What the entry points for other languages show of the answers of the functions that they call.
 pub mod Shown
+pub mod Stacks

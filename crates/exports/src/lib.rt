@@ -1,5 +1,7 @@
 // The entry points for programs in other languages, under plain names; include/register.h declares them. An answer is a number (0 for
 // success, 100 for none left, else the refusal's), a place and what was found.
+mod stacks;
+
 ghost use mathlib.Core.Path.{_≡_};
 ghost use Rattle.fault.specs.declared.Refusal.{Refusal};
 ghost use Rattle.trace.specs.declared.Judgement.{Judgement};
@@ -45,7 +47,7 @@ pub struct RunAnswer {
     pub more: bool,
 }
 
-fn refused(refusal: Refusal) -> Answer
+pub(crate) fn refused(refusal: Refusal) -> Answer
     ensures { λ r. ⌜ r ≡ refusedAs refusal ⌝ }
 {
     let fault = refusal.fault;
@@ -69,7 +71,7 @@ fn no_run(refusal: Refusal) -> RunAnswer
     }
 }
 
-fn found(value: i64) -> Answer
+pub(crate) fn found(value: i64) -> Answer
     ensures { λ r. ⌜ r ≡ foundAs value ⌝ }
 {
     Answer {

@@ -14,14 +14,13 @@ use Rattle.whole.specs.Between.{Within}
 use Rattle.fault.specs.declared.Refusal.{Refusal}
 use Rattle.stack.specs.declared.Layer.{Layer}
 use Rattle.stack.specs.declared.Stack.{Stack}
-use Rattle.stack.specs.declared.StackJudgement.the-variants as stack-is
 use Rattle.stack.specs.declared.StripsJudgement.the-variants as strips-are
 use Rattle.stack.specs.Entries.{entry}
-use Rattle.stack.specs.Faults.{AcceptedStack, StackJudged, fit}
+use Rattle.stack.specs.Faults.{AcceptedStack}
 use Rattle.stack.specs.Strips.{StripsRight, StripsJudged, whole as right}
 use Rattle.stack.specs.Gathered.{Gathers}
 use Rattle.stack.specs.Laid.{laid}
-use Rattle.stack.proofs.Exact.{stack-judged-unique, strips-judged-unique}
+use Rattle.stack.proofs.Exact.{refused-once, refused-not-accepted, strips-judged-unique}
 use Rattle.stack.proofs.Laying.{laid-gathers}
 use Rattle.stack.proofs.StackLaws.{accepted-count}
 use Rattle.mesh.specs.declared.Volumed.{Volumed}
@@ -92,19 +91,6 @@ closed-is-true (whole a _ r) = record {
 
 -- ---- two outcomes that the contracts allow for one input coincide
 
-module _ {es : List Layer} {c : List ℤ} where
-  refused-once : {r s : Refusal} → StackJudged es c (stack-is.Refused r) → StackJudged es c (stack-is.Refused s) → r ≡ s
-  refused-once p q = same (stack-judged-unique p q)
-    where
-      same : {r s : Refusal} → stack-is.Refused r ≡ stack-is.Refused s → r ≡ s
-      same e = cc
-
-  not-both : {r : Refusal} → StackJudged es c (stack-is.Refused r) → AcceptedStack es c → ⊥
-  not-both p a = differ (stack-judged-unique p (fit a))
-    where
-      differ : {r : Refusal} {m n : ℕ} → stack-is.Refused r ≡ stack-is.Fit m n → ⊥
-      differ e = let z : _≡_ {A = ℕ} 0 1 = cc in omega arith
-
 module _ {es : List Layer} {l : List ℕ} where
   strips-once : {r s : Refusal} → StripsJudged es l (strips-are.Refused r) → StripsJudged es l (strips-are.Refused s) → r ≡ s
   strips-once p q = same (strips-judged-unique p q)
@@ -124,29 +110,29 @@ short-long h g = omega arith
 module _ {es : List Layer} {c : List ℤ} {l : List ℕ} where
   measured-once : {r s : Volumed} → Measured es c l r → Measured es c l s → r ≡ s
   measured-once (stack p) (stack q) = ap volume-is.Refused (refused-once p q)
-  measured-once (stack p) (strips a _) = absurd (not-both p a)
-  measured-once (stack p) (six a _) = absurd (not-both p a)
-  measured-once (strips a _) (stack q) = absurd (not-both q a)
+  measured-once (stack p) (strips a _) = absurd (refused-not-accepted p a)
+  measured-once (stack p) (six a _) = absurd (refused-not-accepted p a)
+  measured-once (strips a _) (stack q) = absurd (refused-not-accepted q a)
   measured-once (strips _ p) (strips _ q) = ap volume-is.Refused (strips-once p q)
   measured-once (strips _ p) (six _ s) = absurd (no-strips p s)
-  measured-once (six a _) (stack q) = absurd (not-both q a)
+  measured-once (six a _) (stack q) = absurd (refused-not-accepted q a)
   measured-once (six _ s) (strips _ q) = absurd (no-strips q s)
   measured-once (six _ _) (six _ _) = refl
 
   triangled-once : {out new old : List ℕ} {r s : Meshed} → Triangled es c l out new r → Triangled es c l out old s → (new ≡ old) × (r ≡ s)
   triangled-once (stack p) (stack q) = (refl, ap mesh-is.Refused (refused-once p q))
-  triangled-once (stack p) (room a _) = absurd (not-both p a)
-  triangled-once (stack p) (strips a _ _) = absurd (not-both p a)
-  triangled-once (stack p) (whole a _ _) = absurd (not-both p a)
-  triangled-once (room a _) (stack q) = absurd (not-both q a)
+  triangled-once (stack p) (room a _) = absurd (refused-not-accepted p a)
+  triangled-once (stack p) (strips a _ _) = absurd (refused-not-accepted p a)
+  triangled-once (stack p) (whole a _ _) = absurd (refused-not-accepted p a)
+  triangled-once (room a _) (stack q) = absurd (refused-not-accepted q a)
   triangled-once (room _ _) (room _ _) = (refl, refl)
   triangled-once (room _ h) (strips _ g _) = absurd (short-long h g)
   triangled-once (room _ h) (whole _ g _) = absurd (short-long h g)
-  triangled-once (strips a _ _) (stack q) = absurd (not-both q a)
+  triangled-once (strips a _ _) (stack q) = absurd (refused-not-accepted q a)
   triangled-once (strips _ g _) (room _ h) = absurd (short-long h g)
   triangled-once (strips _ _ p) (strips _ _ q) = (refl, ap mesh-is.Refused (strips-once p q))
   triangled-once (strips _ _ p) (whole _ _ s) = absurd (no-strips p s)
-  triangled-once (whole a _ _) (stack q) = absurd (not-both q a)
+  triangled-once (whole a _ _) (stack q) = absurd (refused-not-accepted q a)
   triangled-once (whole _ g _) (room _ h) = absurd (short-long h g)
   triangled-once (whole _ _ s) (strips _ _ q) = absurd (no-strips q s)
   triangled-once (whole _ _ _) (whole _ _ _) = (refl, refl)

@@ -1,6 +1,6 @@
 -- What the entry points answer, from what the judgements say of the entries that the arrays hold to what 01 says of all that the
 -- stack gathers: an answer for over 20 layers is the stack's refusal whatever the entries are. Assumes nothing.
-use mathlib.Core.Path.{_≡_, sym, ap, _∙_, subst}
+use mathlib.Core.Path.{_≡_, sym, subst}
 use mathlib.Core.List.{List}
 use Prim.Native.Nat.{ℕ, _+_, _-_, _*_, _≤_, _<_}
 use native.Mathlib.Omega.{arith}
@@ -9,7 +9,6 @@ use lib.ListN.{length}
 use mir.Syntax.{w64}
 use mir.Val.{toZ, ofZ}
 use Rattle.whole.proofs.Machine.{held, from}
-use Rattle.fault.specs.declared.Refusal.{Refusal}
 use Rattle.fault.specs.declared.Fault.the-variants.{Room}
 use Rattle.trace.specs.Pair.{at}
 use Rattle.stack.specs.declared.Layer.{Layer}
@@ -19,51 +18,21 @@ use Rattle.stack.specs.declared.StackJudgement.the-variants as stack-is
 use Rattle.stack.specs.declared.StripsJudgement.{StripsJudgement}
 use Rattle.stack.specs.declared.StripsJudgement.the-variants as strips-are
 use Rattle.stack.specs.Entries.{entry, steps}
-use Rattle.stack.specs.Faults.{AcceptedStack, StackJudged}
-use Rattle.stack.specs.Strips.{StripsRight, StripsJudged, StripsAnswered}
+use Rattle.stack.specs.Faults.{AcceptedStack}
 use Rattle.stack.specs.Gathered.{Gathers}
 use Rattle.stack.specs.Laid.{laid}
-use Rattle.stack.proofs.Exact.{fit-exactly, whole-exactly, answered-judged}
 use Rattle.stack.proofs.Laying.{laid-long, laid-only, laid-twenty, laid-gathers, for-gathered}
 use Rattle.stack.proofs.StackLaws.{accepted-count, accepted-steps}
+use Rattle.stack.proofs.Told.{OfStack, OfStrips, stack-fit, strips-right}
 use Rattle.mesh.specs.declared.Volumed.the-variants.{Six}
 use Rattle.mesh.specs.declared.Meshed.the-variants as mesh-is
 use Rattle.mesh.specs.Closed.{closed, triangles}
 use Rattle.mesh.specs.Bands.{sixOf}
 use Rattle.mesh.specs.Meshing.{Measured, six, Triangled, room, whole}
-use Rattle.mesh.specs.Working.{Fitted, Sized, stackRefusal, stripsRefusal}
+use Rattle.mesh.specs.Working.{Fitted, Sized}
 use Rattle.mesh.specs.Writing.{Filled}
 use Rattle.mesh.proofs.Answers.{volume-bounded}
 use Rattle.mesh.proofs.ClosedLaws.{closed-length}
-
--- what a judgement of a Stack says of any entries that it gathers
-abbrev pub OfStack : Stack → List ℤ → StackJudgement → Type 0
-OfStack st c j = (es : List Layer) → Gathers st es → StackJudged es c j
-
-abbrev pub OfStrips : Stack → List ℕ → StripsJudgement → Type 0
-OfStrips st l j = (es : List Layer) → Gathers st es → StripsAnswered es l j
-
-module _ {st : Stack} {c : List ℤ} {j : StackJudgement} (s : OfStack st c j) where
-  -- a refusal is the stack's
-  pub stack-refused : {q r : Refusal} → j ≡ stack-is.Refused q → r ≡ stackRefusal j → (es : List Layer) → Gathers st es
-      → StackJudged es c (stack-is.Refused r)
-  stack-refused e f es g = subst (StackJudged es c) (e ∙ ap stack-is.Refused (sym (f ∙ ap stackRefusal e))) (s es g)
-
-  pub stack-fit : {points n : ℕ} → j ≡ stack-is.Fit points n → (es : List Layer) → Gathers st es → AcceptedStack es c
-  stack-fit {points} {n} e es g = fit-exactly points n .0 (subst (StackJudged es c) e (s es g)) .0
-
-  pub stack-steps : {points n : ℕ} → j ≡ stack-is.Fit points n → n ≡ steps (laid st)
-  stack-steps {points} {n} e = fit-exactly points n .0 (subst (StackJudged (laid st) c) e (s (laid st) (laid-gathers st))) .2
-
-module _ {st : Stack} {c : List ℤ} {l : List ℕ} {j : StripsJudgement} (s : OfStrips st l j) where
-  pub strips-refused : {q r : Refusal} → j ≡ strips-are.Refused q → r ≡ stripsRefusal j → (es : List Layer) → Gathers st es
-      → AcceptedStack es c → StripsJudged es l (strips-are.Refused r)
-  strips-refused e f es g a =
-      answered-judged (a .layers .twenty)
-      (subst (StripsAnswered es l) (e ∙ ap strips-are.Refused (sym (f ∙ ap stripsRefusal e))) (s es g))
-
-  pub strips-right : j ≡ strips-are.Whole → (es : List Layer) → Gathers st es → AcceptedStack es c → StripsRight es l
-  strips-right e es g a = whole-exactly .0 (answered-judged (a .layers .twenty) (subst (StripsAnswered es l) e (s es g)))
 
 -- the entries that the arrays hold
 pub fitted : {st : Stack} {c : List ℤ} {l : List ℕ} {i : StackJudgement} {j : StripsJudgement} {points n : ℕ} → OfStack st c i

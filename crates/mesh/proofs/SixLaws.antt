@@ -38,7 +38,7 @@ use Rattle.stack.specs.Entries.{entry, traceOf, bandStart}
 use Rattle.stack.specs.Strips.{bandPart}
 use Rattle.stack.specs.Laid.{laid}
 use Rattle.stack.proofs.StackLaws.{traceOf-count, accepted-inside, accepted-plane, accepted-steps, band-within}
-use Rattle.stack.proofs.Laying.{laid-long, laid-twenty, laid-inside}
+use Rattle.stack.proofs.Laying.{laid-long, laid-twenty}
 use Rattle.mesh.specs.Closed.{stepsOf}
 use Rattle.mesh.specs.Bands.{rule, bandRule, sixOf}
 use Rattle.mesh.specs.Working.{Joined, Fitted}
@@ -111,9 +111,6 @@ module _ {st : Stack} {c : List ℤ} {l : List ℕ} (f : Fitted st c l) where
       → Holds 100000 100000 (toZ w32 (ofZ w32 (d .plane))) (entry (laid st) k .plane)
   plane-held {k} h p =
       held w32 (from (ap (λ (e : Layer). e .plane) p) (accepted-plane (f .stack) k (omega (arith, laid-long st)))) tt
-
-  pub trace-inside : {k : ℕ} (d : Layer) → k < st .layers → d ≡ entry (laid st) k → 2 * d .first + 2 * d .count ≤ length c
-  trace-inside {k} d h p = laid-inside st c k d (f .stack .spanned) h p
 
   module _ {k : ℕ} {d e : Layer} (h : suc k < st .layers) (p : d ≡ entry (laid st) k) (q : e ≡ entry (laid st) (k + 1)) where
     pub rise-held : Holds 200000 200000 (toZ w32 (ofZ w32 (e .plane)) -ℤ toZ w32 (ofZ w32 (d .plane)))

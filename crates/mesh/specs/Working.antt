@@ -2,16 +2,10 @@
 use mathlib.Core.List.{List}
 use Prim.Native.Nat.{ℕ, _≤_, _<_}
 use lib.IntN.{ℤ}
-use Rattle.fault.specs.declared.Refusal.{Refusal}
-use Rattle.fault.specs.declared.Fault.the-variants.{Layers, Strip}
 use Rattle.trace.specs.Points.{count}
-use Rattle.trace.specs.Pair.{at, Pair}
+use Rattle.trace.specs.Pair.{Pair}
 use Rattle.strip.specs.Bytes.{IsStrip}
 use Rattle.stack.specs.declared.Stack.{Stack}
-use Rattle.stack.specs.declared.StackJudgement.{StackJudgement}
-use Rattle.stack.specs.declared.StackJudgement.the-variants as stack-is
-use Rattle.stack.specs.declared.StripsJudgement.{StripsJudgement}
-use Rattle.stack.specs.declared.StripsJudgement.the-variants as strips-are
 use Rattle.stack.specs.Entries.{entry, steps}
 use Rattle.stack.specs.Faults.{AcceptedStack}
 use Rattle.stack.specs.Strips.{StripsRight}
@@ -34,12 +28,3 @@ pub record Sized (st : Stack) : Type 0 where
   pub three : (k : ℕ) → k < st .layers → 3 ≤ entry (laid st) k .count
   pub many : (k : ℕ) → k < st .layers → entry (laid st) k .count ≤ 250
   pub steps : steps (laid st) ≤ 9500
-
--- the refusal that a judgement carries; where it carries none, nothing is refused
-abbrev pub stackRefusal : StackJudgement → Refusal
-stackRefusal (stack-is.Refused r) = r
-stackRefusal (stack-is.Fit points n) = at Layers 0
-
-abbrev pub stripsRefusal : StripsJudgement → Refusal
-stripsRefusal (strips-are.Refused r) = r
-stripsRefusal strips-are.Whole = at Strip 0

@@ -1,27 +1,12 @@
 // The layers of a stack that is passed by value.
 ghost use mathlib.Core.Path.{_≡_};
 ghost use Prim.Native.Nat.{suc, _≤_, _<_};
-ghost use Rattle.stack.specs.Entries.{entry, steps, bandStart};
+ghost use Rattle.stack.specs.Entries.{steps, bandStart};
 ghost use Rattle.stack.specs.Laid.{laid};
 ghost use Rattle.mesh.specs.Closed.{triangles};
 ghost use Rattle.mesh.specs.Working.{Sized};
-use stack::Layer;
 use stack::Stack;
-
-// Entry `k`. The arrays are read here and nowhere else.
-pub(crate) fn layer_at(stack: Stack, k: usize) -> Layer
-    requires { ⌜ (k < stack .layers) × (stack .layers ≤ 20) ⌝ }
-    ensures { λ r. ⌜ r ≡ entry (laid stack) k ⌝ }
-{
-    let planes = stack.plane;
-    let firsts = stack.first;
-    let counts = stack.count;
-    Layer {
-        plane: planes[k],
-        first: firsts[k],
-        count: counts[k],
-    }
-}
+use stack::layer_at;
 
 // Where the steps of band `k` end, and those of the next begin.
 pub(crate) fn band_end(stack: Stack, k: usize, at: usize) -> usize

@@ -4,8 +4,6 @@ ghost use Rattle.stack.specs.declared.Layer.{Layer};
 ghost use Rattle.stack.specs.Gathered.{Gathers};
 ghost use Rattle.mesh.specs.Meshing.{Measured, Triangled};
 use crate::layers::triangle_count;
-use crate::refusals::stack_refusal;
-use crate::refusals::strips_refusal;
 use crate::six::six_of;
 use crate::writers::put_all;
 use fault::Fault;
@@ -13,9 +11,10 @@ use fault::Refusal;
 use stack::Stack;
 use stack::StackJudgement;
 use stack::StripsJudgement;
+use stack::stack_refusal;
+use stack::strips_refusal;
 
 mod layers;
-mod refusals;
 mod six;
 mod writers;
 

@@ -1,22 +1,21 @@
 // Six times the volume, band by band: the band rule's sums stay within 4·10^18, those of the triangles' determinants need not.
 ghost use mathlib.Core.Path.{_≡_};
-ghost use Prim.Native.Nat.{suc, _+_, _*_, _≤_, _<_};
+ghost use Prim.Native.Nat.{suc, _+_, _*_, _<_};
 ghost use lib.IntN.{pos};
-ghost use lib.ListN.{length};
 ghost use lib.Signed.{quotZ};
 ghost use Rattle.whole.specs.Between.{Within};
 ghost use Rattle.trace.specs.Points.{twiceArea};
 ghost use Rattle.trace.specs.Faults.{Accepted};
 ghost use Rattle.strip.specs.Worth.{W};
-ghost use Rattle.stack.specs.Entries.{traceOf, bandStart};
+ghost use Rattle.stack.specs.Entries.{bandStart};
 ghost use Rattle.stack.specs.Laid.{laid};
 ghost use Rattle.mesh.specs.Closed.{stepsOf};
 ghost use Rattle.mesh.specs.Bands.{rule, bandRule, sixOf};
 ghost use Rattle.mesh.specs.Working.{Joined, Fitted};
 use crate::layers::band_end;
-use crate::layers::layer_at;
-use stack::Layer;
 use stack::Stack;
+use stack::layer_at;
+use stack::trace_of;
 use strip::Valued;
 use trace::Judgement;
 
@@ -51,16 +50,6 @@ fn by_rule(h: i32, a: &[i32], b: &[i32], part: &[u8]) -> i64
 {
     let areas = twice_area(a) + twice_area(b);
     (h as i64) * (areas + half_value(a, b, part))
-}
-
-// The trace of a layer that lies inside the list.
-fn trace_of(coords: &[i32], layer: Layer) -> &[i32]
-    requires { ⌜ 2 * layer .first + 2 * layer .count ≤ length (now coords) ⌝ }
-    ensures { λ r. ⌜ now r ≡ traceOf (now (coords .entry)) layer ⌝ }
-{
-    let from = 2 * layer.first;
-    let to = from + 2 * layer.count;
-    &coords[from..to]
 }
 
 // Six times the volume of band `k`, whose steps begin at `at`.

@@ -10,9 +10,9 @@ ghost use Rattle.stack.specs.Laid.{laid};
 ghost use Rattle.mesh.specs.Triangles.{bandFrom};
 ghost use Rattle.mesh.specs.Closed.{ring, stepsOf, floorOf, roofOf, bandOf, bandsTo, closed, triangles};
 ghost use Rattle.mesh.specs.Writing.{Filled, tri, floorTri, roofTri, Numbered, StepReady, Stepped, Drawn};
-use crate::layers::layer_at;
 use stack::Layer;
 use stack::Stack;
+use stack::layer_at;
 
 // How far a band has come along its two traces.
 pub(crate) struct Pair {

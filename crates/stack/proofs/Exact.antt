@@ -85,6 +85,19 @@ module _ {es : List Layer} {c : List ℤ} where
       odd-even : length c % 2 ≡ 1 → length c % 2 ≡ 0 → ⊥
       odd-even p q = omega arith
 
+  -- one refusal, and none for an accepted stack
+  pub refused-once : {r s : Refusal} → StackJudged es c (Refused r) → StackJudged es c (Refused s) → r ≡ s
+  refused-once p q = same (stack-judged-unique p q)
+    where
+      same : {r s : Refusal} → Refused r ≡ Refused s → r ≡ s
+      same e = cc
+
+  pub refused-not-accepted : {r : Refusal} → StackJudged es c (Refused r) → AcceptedStack es c → ⊥
+  refused-not-accepted p a = differ (stack-judged-unique p (fit a))
+    where
+      differ : {r : Refusal} {m n : ℕ} → Refused r ≡ Fit m n → ⊥
+      differ e = let z : _≡_ {A = ℕ} 0 1 = cc in omega arith
+
   -- "fit" exactly for an accepted stack, with its number of points and of steps
   pub fit-exactly : (points n : ℕ) → StackJudged es c (Fit points n) ↔ (AcceptedStack es c × (points ≡ length c / 2) × (n ≡ steps es))
   fit-exactly points n = (λ j. of j refl, λ a. subst (StackJudged es c) (ap₂ Fit (sym (a .1)) (sym (a .2))) (fit (a .0)))

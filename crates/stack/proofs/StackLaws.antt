@@ -5,8 +5,9 @@ use mathlib.Core.Path.{_≡_, refl, sym, ap, _∙_}
 use mathlib.Core.Bool.{Bool, true, false}
 use mathlib.Core.Logic.{⊎-elim}
 use mathlib.Core.List.{List, [], _∷_}
-use Prim.Native.Nat.{ℕ, zero, suc, _+_, _*_, _-_, _/_, _%_, _≤_, _<_}
+use Prim.Native.Nat.{ℕ, zero, suc, _+_, _*_, _-_, _/_, _%_, _≤_, _<_, min}
 use native.Mathlib.Decide.{ℕ-discrete}
+use native.Mathlib.Nat.{zero-min, min-zero, suc-min-suc}
 use native.Mathlib.Numerals.{add-one}
 use native.Mathlib.Omega.{arith}
 use lib.IntN.{ℤ}
@@ -62,9 +63,26 @@ part-from a n l = ap (λ (m : ℕ). take m (drop a l)) (eq a n)
     eq : (a n : ℕ) → a + n - a ≡ n
     eq a n = omega arith
 
-pub traceOf-part : (c : List ℤ) (e : Layer) → take (2 * e .first + 2 * e .count - 2 * e .first) (drop (2 * e .first) c) ≡ traceOf c e
+-- numbers that are cut off at a list's end take and drop the same
+take-up-to : (n : ℕ) (l : List ℤ) → take (min n (length l)) l ≡ take n l
+take-up-to zero l = ap (λ (k : ℕ). take k l) (zero-min (length l))
+take-up-to (suc n) [] = ap (λ (k : ℕ). take {A = ℤ} k []) (min-zero (suc n))
+take-up-to (suc n) (z ∷ l) = ap (λ (k : ℕ). take k (z ∷ l)) (suc-min-suc n (length l)) ∙ ap (λ (r : List ℤ). z ∷ r) (take-up-to n l)
+
+drop-up-to : (n : ℕ) (l : List ℤ) → drop (min n (length l)) l ≡ drop n l
+drop-up-to zero l = ap (λ (k : ℕ). drop k l) (zero-min (length l))
+drop-up-to (suc n) [] = ap (λ (k : ℕ). drop {A = ℤ} k []) (min-zero (suc n))
+drop-up-to (suc n) (z ∷ l) = ap (λ (k : ℕ). drop k (z ∷ l)) (suc-min-suc n (length l)) ∙ drop-up-to n l
+
+-- so what of a trace lies inside the list is the trace
+pub traceOf-part : (c : List ℤ) (e : Layer) {a n : ℕ} → a ≡ min (2 * e .first) (length c) → n ≡ min (2 * e .count) (length c - a)
+    → take (a + n - a) (drop a c) ≡ traceOf c e
 unfolding traceOf
-traceOf-part c e = part-from (2 * e .first) (2 * e .count) c
+traceOf-part c e {a} {n} p q =
+    part-from a n c
+    ∙ ap (λ (k : ℕ). take k (drop a c)) (q ∙ ap (min (2 * e .count)) (sym (length-drop a c)))
+    ∙ take-up-to (2 * e .count) (drop a c)
+    ∙ ap (take (2 * e .count)) (ap (λ (k : ℕ). drop k c) p ∙ drop-up-to (2 * e .first) c)
 
 pub traceOf-even : (c : List ℤ) (e : Layer) → stop e ≤ length c / 2 → length (traceOf c e) % 2 ≡ 0
 unfolding traceOf

@@ -3,4 +3,5 @@ pub mod Entries
 pub mod Faults
 pub mod Strips
 pub mod Gathered
+pub mod Refusals
 pub mod Laid

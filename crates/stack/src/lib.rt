@@ -10,10 +10,11 @@ ghost use Rattle.trace.specs.Judged.{judged};
 ghost use Rattle.trace.specs.Faults.{Accepted};
 ghost use Rattle.strip.specs.Bytes.{IsStrip};
 ghost use Rattle.stack.specs.declared.Layer.{Layer};
-ghost use Rattle.stack.specs.Entries.{entry, traceOf, stop, start, steps, bandStart};
+ghost use Rattle.stack.specs.Entries.{noLayer, entry, traceOf, stop, start, steps, bandStart};
 ghost use Rattle.stack.specs.Faults.{Breaks, PlaneFault, LayersRight, Spanned, StackJudged};
 ghost use Rattle.stack.specs.Strips.{BandStrip, BandFault, StripsAnswered};
 ghost use Rattle.stack.specs.Gathered.{Gathers};
+ghost use Rattle.stack.specs.Refusals.{stackRefusal, stripsRefusal};
 ghost use Rattle.stack.specs.Laid.{laid};
 use fault::Fault;
 use fault::Refusal;
@@ -27,6 +28,7 @@ pub struct Layer {
 }
 
 // The entries of a stack, by value: the first 20 of them, and how many were handed in.
+#[repr(C)]
 pub struct Stack {
     pub plane: [i32; 20],
     pub first: [usize; 20],
@@ -44,6 +46,34 @@ pub enum StripsJudgement {
     // Every band's part is a strip.
     Whole,
     Refused(Refusal),
+}
+
+// The refusal that a judgement carries. (A fit stack has none: what is answered for it is not asked for. So below.)
+pub fn stack_refusal(judged: StackJudgement) -> Refusal
+    ensures { λ r. ⌜ r ≡ stackRefusal judged ⌝ }
+{
+    match judged {
+        StackJudgement::Refused(refusal) => refusal,
+        StackJudgement::Fit {
+            points: _,
+            steps: _,
+        } => Refusal {
+            fault: Fault::Layers,
+            place: 0,
+        },
+    }
+}
+
+pub fn strips_refusal(judged: StripsJudgement) -> Refusal
+    ensures { λ r. ⌜ r ≡ stripsRefusal judged ⌝ }
+{
+    match judged {
+        StripsJudgement::Refused(refusal) => refusal,
+        StripsJudgement::Whole => Refusal {
+            fault: Fault::Strip,
+            place: 0,
+        },
+    }
 }
 
 // Takes every stack and every list: LAYERS, SHAPE, SPAN, then trace by trace, then PLANES.
@@ -72,11 +102,16 @@ pub fn judge_stack(stack: Stack, coords: &[i32]) -> StackJudgement
     judge_traces(stack, coords)
 }
 
-// Entry `k`. The arrays are read here and nowhere else.
-fn layer_at(stack: Stack, k: usize) -> Layer
-    requires { ⌜ (k < stack .layers) × (stack .layers ≤ 20) ⌝ }
+// Entry `k`; past the last entry, and past the 20 that are handed in, one of zeros. The arrays are read here and nowhere else.
+pub fn layer_at(stack: Stack, k: usize) -> Layer
     ensures { λ r. ⌜ r ≡ entry (laid stack) k ⌝ }
 {
+    if stack.layers <= k {
+        return no_layer();
+    }
+    if 20 <= k {
+        return no_layer();
+    }
     let planes = stack.plane;
     let firsts = stack.first;
     let counts = stack.count;
@@ -85,6 +120,32 @@ fn layer_at(stack: Stack, k: usize) -> Layer
         first: firsts[k],
         count: counts[k],
     }
+}
+
+fn no_layer() -> Layer
+    ensures { λ r. ⌜ r ≡ noLayer ⌝ }
+{
+    Layer {
+        plane: 0,
+        first: 0,
+        count: 0,
+    }
+}
+
+// Twice a number, cut off at `most`: so it cannot wrap.
+fn twice_up_to(n: usize, most: usize) -> usize
+    ensures { λ r. ⌜ r ≡ min (2 * n) most ⌝ }
+{
+    if n <= most / 2 { 2 * n } else { most }
+}
+
+// The trace of a layer: what of it lies inside the list. In a stack that keeps the rule that is all of it.
+pub fn trace_of(coords: &[i32], layer: Layer) -> &[i32]
+    ensures { λ r. ⌜ now r ≡ traceOf (now (coords .entry)) layer ⌝ }
+{
+    let from = twice_up_to(layer.first, coords.len());
+    let to = from + twice_up_to(layer.count, coords.len() - from);
+    &coords[from..to]
 }
 
 // Whether a layer stops at `end`. Nothing is added, so no count can wrap into a right one.
@@ -147,15 +208,11 @@ fn first_break(stack: Stack, coords: &[i32]) -> usize
     k
 }
 
-// The judgement of the trace of layer `k`, which is lent as a part of the list: in a stack that keeps the rule it lies inside.
+// The judgement of the trace of layer `k`, which is lent as a part of the list.
 fn judge_layer(stack: Stack, coords: &[i32], k: usize) -> Judgement
-    requires { ⌜ (k < stack .layers) × (stack .layers ≤ 20) × Spanned (laid stack) (now coords) ⌝ }
     ensures { λ r. ⌜ r ≡ judged (traceOf (now (coords .entry)) (entry (laid stack) k)) ⌝ }
 {
-    let layer = layer_at(stack, k);
-    let from = 2 * layer.first;
-    let to = from + 2 * layer.count;
-    trace::judge(&coords[from..to])
+    trace::judge(trace_of(coords, layer_at(stack, k)))
 }
 
 // Trace by trace, from the lowest: so the first refusal is at the lowest place at fault, and ends the call.

@@ -6,9 +6,6 @@ use lib.IntN.{pos}
 use borrow.Author.Needs.{needs}
 use Rattle.exports.proofs.no_run.Statement.{statement}
 use Rattle.exports.proofs.no_run.Tie as tie
-use Rattle.exports.proofs.no_run.Reads as reads
-use Rattle.exports.proofs.no_run.Lts as lts
-use Rattle.fault.proofs.number.Reads as number-reads
 
 number-requires : tie.Need-number-requires
 number-requires c κs = search needs

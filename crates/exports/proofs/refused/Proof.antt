@@ -5,9 +5,6 @@ use lib.IntN.{pos}
 use borrow.Author.Needs.{needs}
 use Rattle.exports.proofs.refused.Statement.{statement}
 use Rattle.exports.proofs.refused.Tie as tie
-use Rattle.exports.proofs.refused.Reads as reads
-use Rattle.exports.proofs.refused.Lts as lts
-use Rattle.fault.proofs.number.Reads as number-reads
 
 number-requires : tie.Need-number-requires
 number-requires c κs = search needs

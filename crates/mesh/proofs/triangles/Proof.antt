@@ -2,10 +2,11 @@
 use native.Mathlib.Omega.{arith}
 use Rattle.stack.specs.Laid.{laid}
 use Rattle.stack.proofs.Laying.{laid-gathers}
+use Rattle.stack.proofs.Told.{stack-refused, stack-fit, stack-steps, strips-refused}
 use Rattle.mesh.specs.Meshing as answer
 use Rattle.mesh.specs.Working.{Fitted, Sized}
 use Rattle.mesh.proofs.ClosedLaws.{drawn}
-use Rattle.mesh.proofs.MeshLaws.{stack-refused, stack-fit, stack-steps, strips-refused, fitted, sized}
+use Rattle.mesh.proofs.MeshLaws.{fitted, sized}
 use Rattle.mesh.proofs.MeshLaws.{triangles-few, no-room, roomy, triangled}
 use borrow.Author.Needs.{needs}
 use Rattle.mesh.proofs.triangles.Statement.{statement}

@@ -7,7 +7,7 @@ use Rattle.trace.specs.Faults.{Accepted}
 use Rattle.stack.specs.Entries.{entry, traceOf}
 use Rattle.stack.specs.Laid.{laid}
 use Rattle.stack.proofs.Judging.{fit-accepted, trace-refused}
-use Rattle.stack.proofs.Laying.{laid-long, laid-twenty}
+use Rattle.stack.proofs.Laying.{laid-long}
 use Rattle.stack.proofs.judge_traces.Statement.{statement}
 use Rattle.stack.proofs.judge_traces.Tie as tie
 
@@ -21,9 +21,7 @@ loop-holds : tie.Need-loop-holds Inv-loop μ-loop
 loop-holds c = (omega arith, below-none _)
 
 judge-layer-requires : tie.Need-judge-layer-requires Inv-loop μ-loop
-judge-layer-requires c κs =
-    let s = c .before .before in
-    (omega arith, laid-twenty (s .args .stack) (s .pre .0), s .pre .1)
+judge-layer-requires c κs = search needs
 
 enum-told : tie.Need-enum-told Inv-loop μ-loop
 enum-told c = search needs

@@ -4,20 +4,20 @@ use native.Mathlib.Omega.{arith}
 use lib.ListN.{length}
 use mir.Syntax.{w32}
 use Rattle.whole.proofs.Machine.{fits-holds}
-use Rattle.mesh.proofs.Parts.{upper, part-inside, part-is}
-use Rattle.mesh.proofs.SixLaws.{twenty, trace-inside, rise-held, rise-read, rise-within, band-joined, band-ruled, rule-returned}
+use Rattle.mesh.proofs.Parts.{part-inside, part-is}
+use Rattle.mesh.proofs.SixLaws.{rise-held, rise-read, rise-within, band-joined, band-ruled, rule-returned}
 use borrow.Author.Needs.{needs}
 use Rattle.mesh.proofs.six.band_six.Statement.{statement}
 use Rattle.mesh.proofs.six.band_six.Tie as tie
 
 layer-at-requires : tie.Need-layer-at-requires
-layer-at-requires c κs = (omega arith, twenty (c .before .pre .0))
+layer-at-requires c κs = search needs
 
 add-layer-at : tie.Need-add-layer-at
 add-layer-at c = search needs
 
 layer-at-requires-2 : tie.Need-layer-at-requires-2
-layer-at-requires-2 c κs = (omega arith, twenty (c .before .before .pre .0))
+layer-at-requires-2 c κs = search needs
 
 inside : (c : tie.After-struct-known2)
     → c .before .before .before .before .before .args .at
@@ -41,16 +41,10 @@ sub-by-rule c =
     fits-holds w32 (rise-held (s .pre .0) (s .pre .1) (high .before .layer-at .ensures) (high .layer-at2 .ensures)) tt
 
 trace-of-requires : tie.Need-trace-of-requires
-trace-of-requires c κs =
-    let low = c .before .before .before .before .before .before .before in
-    let s = low .before .before in
-    trace-inside (s .pre .0) (low .layer-at .result) (omega (arith, s .pre .1)) (low .layer-at .ensures)
+trace-of-requires c κs = search needs
 
 trace-of-requires-2 : tie.Need-trace-of-requires-2
-trace-of-requires-2 c κs =
-    let high = c .before .before .before .before .before .before .before in
-    let s = high .before .before .before in
-    trace-inside (s .pre .0) (high .layer-at2 .result) (s .pre .1) (upper (s .args .stack) (s .args .k) (high .layer-at2 .ensures))
+trace-of-requires-2 c κs = search needs
 
 sub-by-rule-2 : tie.Need-sub-by-rule-2
 sub-by-rule-2 c = search needs

@@ -1,9 +1,9 @@
--- `mesh::refusals::stack_refusal` meets its contract: each arm is one case of the definition. Assumes nothing.
+-- `stack::stack_refusal` meets its contract: each arm is one case of the definition. Assumes nothing.
 use mathlib.Core.Path.{sym, ap}
-use Rattle.mesh.specs.Working.{stackRefusal}
+use Rattle.stack.specs.Refusals.{stackRefusal}
 use borrow.Author.Needs.{needs}
-use Rattle.mesh.proofs.refusals.stack_refusal.Statement.{statement}
-use Rattle.mesh.proofs.refusals.stack_refusal.Tie as tie
+use Rattle.stack.proofs.stack_refusal.Statement.{statement}
+use Rattle.stack.proofs.stack_refusal.Tie as tie
 
 enum-known-judged : tie.Need-enum-known-judged
 enum-known-judged c = search needs

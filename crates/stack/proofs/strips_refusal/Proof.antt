@@ -1,9 +1,9 @@
--- `mesh::refusals::strips_refusal` meets its contract: each arm is one case of the definition. Assumes nothing.
+-- `stack::strips_refusal` meets its contract: each arm is one case of the definition. Assumes nothing.
 use mathlib.Core.Path.{sym, ap}
-use Rattle.mesh.specs.Working.{stripsRefusal}
+use Rattle.stack.specs.Refusals.{stripsRefusal}
 use borrow.Author.Needs.{needs}
-use Rattle.mesh.proofs.refusals.strips_refusal.Statement.{statement}
-use Rattle.mesh.proofs.refusals.strips_refusal.Tie as tie
+use Rattle.stack.proofs.strips_refusal.Statement.{statement}
+use Rattle.stack.proofs.strips_refusal.Tie as tie
 
 enum-known-judged : tie.Need-enum-known-judged
 enum-known-judged c = search needs

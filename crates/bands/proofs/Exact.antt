@@ -1,0 +1,88 @@
+-- Two outcomes that the contract of `best_strips` allows for one input coincide: the answer and every lent byte. A refusal leaves the
+-- lent memory as it was. And what success fills in are strips of the stack, so that they are accepted where strips are judged.
+--
+-- Of two outcomes the one that comes later in 01's order contradicts the earlier; where both are strips, each band's first best strip
+-- is one, so the bytes agree band by band from the bottom up. Assumes nothing.
+use mathlib.Core.Path.{_≡_, refl, sym, ap, ap₂, _∙_}
+use mathlib.Core.List.{List, _++_}
+use Prim.Native.Nat.{ℕ, zero, suc, _+_, _-_, _<_}
+use native.Mathlib.Omega.{arith}
+use lib.IntN.{ℤ}
+use lib.ListN.{length, take, drop}
+use lib.Seq.{take-all, take-add}
+use Rattle.fault.specs.declared.Refusal.{Refusal}
+use Rattle.ways.proofs.Unique.{first-unique}
+use Rattle.strip.specs.Bytes.{bytes}
+use Rattle.joining.specs.Answers.{Untouched}
+use Rattle.joining.proofs.Exact.{Same}
+use Rattle.stack.specs.declared.Layer.{Layer}
+use Rattle.stack.specs.declared.Stack.{Stack}
+use Rattle.stack.specs.Entries.{entry, steps, bandStart}
+use Rattle.stack.specs.Faults.{AcceptedStack}
+use Rattle.stack.specs.Strips.{bandPart, StripsRight}
+use Rattle.stack.specs.Gathered.{Gathers}
+use Rattle.stack.specs.Laid.{laid}
+use Rattle.stack.proofs.Exact.{refused-once, refused-not-accepted}
+use Rattle.stack.proofs.Laying.{laid-gathers}
+use Rattle.stack.proofs.StackLaws.{band-all}
+use Rattle.bands.specs.declared.Banded.{Banded}
+use Rattle.bands.specs.declared.Banded.the-variants as bands-are
+use Rattle.bands.specs.Bands.{AllBest, BandsAnswer, stack, room, best}
+use Rattle.bands.proofs.FillLaws.{band-strip}
+
+-- ---- the strips of all bands are one
+
+module _ {es : List Layer} {c : List ℤ} {l m : List ℕ} (p : AllBest es c l) (q : AllBest es c m) where
+  part-same : (k : ℕ) → suc k < length es → bandPart es l k ≡ bandPart es m k
+  part-same k h = p .best k h .here ∙ ap bytes (first-unique (p .best k h .first) (q .best k h .first)) ∙ sym (q .best k h .here)
+
+  up-to : (k : ℕ) → k < length es → take (bandStart es k) l ≡ take (bandStart es k) m
+  unfolding bandStart bandPart
+  up-to zero h = refl
+  up-to (suc k) h =
+      let n = entry es k .count + entry es (suc k) .count in
+      take-add (bandStart es k) n l ∙ ap₂ _++_ (up-to k (omega arith)) (part-same k h) ∙ sym (take-add (bandStart es k) n m)
+
+  pub all-best-unique : 0 < length es → l ≡ m
+  all-best-unique h =
+      let top : bandStart es (length es - 1) ≡ steps es = band-all es (length es - 1) refl in
+      sym (take-all (bandStart es (length es - 1)) l (omega (arith, p .long)))
+      ∙ up-to (length es - 1) (omega arith)
+      ∙ take-all (bandStart es (length es - 1)) m (omega (arith, q .long))
+
+-- they are strips: `judge_strips` finds no fault, and `volume` and `triangles` take them
+pub bands-are-strips : {es : List Layer} {c : List ℤ} {l : List ℕ} → AcceptedStack es c → AllBest es c l → StripsRight es l
+bands-are-strips {es} {c} {l} a b = record {
+  long = b .long;
+  strips = λ k h. rw (b .best k h .here) (band-strip a k h (b .best k h .first));
+}
+
+-- ---- the outcomes
+
+module _ {es : List Layer} {c : List ℤ} {strips work : List ℕ} where
+  pub bands-unique : {r r′ : Banded} {s s′ w w′ : List ℕ} → BandsAnswer es c strips work s w r → BandsAnswer es c strips work s′ w′ r′
+      → Same r r′ s s′ w w′
+  bands-unique (stack p) (stack q) = record { answer = ap bands-are.Refused (refused-once p q); strips = refl; works = refl }
+  bands-unique (stack p) (room a _) = absurd (refused-not-accepted p a)
+  bands-unique (stack p) (best a _ _ _) = absurd (refused-not-accepted p a)
+  bands-unique (room a _) (stack q) = absurd (refused-not-accepted q a)
+  bands-unique (room _ _) (room _ _) = record { answer = refl; strips = refl; works = refl }
+  bands-unique (room _ n) (best _ m _ _) = absurd (n m)
+  bands-unique (best a _ _ _) (stack q) = absurd (refused-not-accepted q a)
+  bands-unique (best _ m _ _) (room _ n) = absurd (n m)
+  bands-unique (best a _ l b) (best _ _ l′ b′) = record {
+    answer = refl;
+    strips = ap (λ (x : List ℕ). x ++ drop (steps es) strips) (all-best-unique b b′ (omega (arith, a .layers .two)));
+    works = refl;
+  }
+
+  pub bands-refused-untouched : {r : Refusal} {s w : List ℕ} → BandsAnswer es c strips work s w (bands-are.Refused r)
+      → Untouched strips work s w
+  bands-refused-untouched (stack _) = record { stripSame = refl; workSame = refl }
+  bands-refused-untouched (room _ _) = record { stripSame = refl; workSame = refl }
+
+-- `best_strips` leaves one answer for each input: every Stack gathers some entries.
+pub best-strips-unique : (st : Stack) (c : List ℤ) (strips work : List ℕ) {r r′ : Banded} {s s′ w w′ : List ℕ}
+    → ((es : List Layer) → Gathers st es → BandsAnswer es c strips work s w r)
+    → ((es : List Layer) → Gathers st es → BandsAnswer es c strips work s′ w′ r′) → Same r r′ s s′ w w′
+best-strips-unique st c strips work p q = bands-unique (p (laid st) (laid-gathers st)) (q (laid st) (laid-gathers st))

@@ -1,0 +1,63 @@
+-- `exports::stacks::register_triangles` meets its contract: what the function that it calls answers is shown. Assumes nothing.
+use mathlib.Core.Path.{sym, ap, _∙_}
+use Prim.Native.Nat.{ℕ}
+use lib.IntN.{ℤ, pos}
+use mir.Syntax.{w64}
+use Rattle.whole.proofs.Machine.{read-back}
+use Rattle.mesh.specs.declared.Meshed.the-variants.{Closed}
+use Rattle.exports.specs.Stacks.{meshedAs}
+use borrow.Author.Needs.{needs}
+use Rattle.exports.proofs.stacks.register_triangles.Statement.{statement}
+use Rattle.exports.proofs.stacks.register_triangles.Tie as tie
+
+triangles-requires : tie.Need-triangles-requires
+triangles-requires c κs = search needs
+
+enum-known-triangles : tie.Need-enum-known-triangles
+enum-known-triangles c = search needs
+
+enum-known-refusal : tie.Need-enum-known-refusal
+enum-known-refusal c = search needs
+
+number-requires : tie.Need-number-requires
+number-requires c κs = search needs
+
+same-length : tie.Need-same-length
+same-length c = search needs
+
+returns : tie.Need-returns
+returns c = (
+  c .before .before .before .before .before .triangles .result,
+  (
+    c .before .before .before .before .before .triangles .ensures,
+    ap (λ (z : ℤ). meshedAs (Closed (c .before .triangles2 .given .0 .0) z))
+        (read-back w64 (c .before .triangles2 .given .0 .1 .0) (c .known-told .given .1 .0 .1))
+        ∙ sym (ap meshedAs (c .before .triangles2 .given .1)),
+  ),
+)
+
+same-length-2 : tie.Need-same-length-2
+same-length-2 c = search needs
+
+returns-2 : tie.Need-returns-2
+returns-2 c = (
+  c .before .before .before .before .before .before .triangles .result,
+  (
+    c .before .before .before .before .before .before .triangles .ensures,
+    ap (λ (k : ℕ). record { number = k; place = c .before .before .refusal .given .0 .0 .place; triangles = 0; six = pos 0 }) (c .number .ensures)
+        ∙ sym (ap meshedAs (c .before .before .refusal .given .1)),
+  ),
+)
+
+pub register-triangles-spec : {M : Type 1} → statement M
+register-triangles-spec =
+    tie.close
+    (tie.spec
+    triangles-requires
+    enum-known-triangles
+    enum-known-refusal
+    number-requires
+    same-length
+    returns
+    same-length-2
+    returns-2)

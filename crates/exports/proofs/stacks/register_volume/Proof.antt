@@ -1,0 +1,49 @@
+-- `exports::stacks::register_volume` meets its contract: what the function that it calls answers is shown. Assumes nothing.
+use mathlib.Core.Path.{sym, ap, _∙_}
+use mir.Syntax.{w64}
+use Rattle.whole.proofs.Machine.{read-back}
+use Rattle.exports.specs.Shown.{foundAs}
+use Rattle.exports.specs.Stacks.{volumedAs}
+use borrow.Author.Needs.{needs}
+use Rattle.exports.proofs.stacks.register_volume.Statement.{statement}
+use Rattle.exports.proofs.stacks.register_volume.Tie as tie
+
+volume-requires : tie.Need-volume-requires
+volume-requires c κs = search needs
+
+enum-known-six : tie.Need-enum-known-six
+enum-known-six c = search needs
+
+found-requires : tie.Need-found-requires
+found-requires c κs = search needs
+
+enum-known-refusal : tie.Need-enum-known-refusal
+enum-known-refusal c = search needs
+
+refused-requires : tie.Need-refused-requires
+refused-requires c κs = search needs
+
+returns : tie.Need-returns
+returns c = (
+  c .before .before .before .before .volume .result,
+  (
+    c .before .before .before .before .volume .ensures,
+    c .found .ensures ∙ ap foundAs (read-back w64 (c .before .before .six .given .0 .0) (c .before .known-told .given .0 .1))
+        ∙ sym (ap volumedAs (c .before .before .six .given .1)),
+  ),
+)
+
+returns-2 : tie.Need-returns-2
+returns-2 c = (c .before .before .before .before .volume .result, (c .before .before .before .before .volume .ensures, c .refused .ensures ∙ sym (ap volumedAs (c .before .before .refusal .given .1))))
+
+pub register-volume-spec : {M : Type 1} → statement M
+register-volume-spec =
+    tie.close
+    (tie.spec
+    volume-requires
+    enum-known-six
+    found-requires
+    enum-known-refusal
+    refused-requires
+    returns
+    returns-2)
