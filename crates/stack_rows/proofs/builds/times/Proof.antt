@@ -1,7 +1,6 @@
 -- `stack_rows::builds::times` meets its contract: the product is at most that of the bounds. Assumes nothing.
 use native.Mathlib.Nat.{mul-le-mul}
 use native.Mathlib.Omega.{arith}
-use borrow.Author.Needs.{needs}
 use Rattle.stack_rows.proofs.builds.times.Statement.{statement}
 use Rattle.stack_rows.proofs.builds.times.Tie as tie
 
