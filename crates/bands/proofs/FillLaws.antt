@@ -26,7 +26,7 @@ use Rattle.stack.specs.Entries.{entry, traceOf, steps, bandStart}
 use Rattle.stack.specs.Faults.{AcceptedStack}
 use Rattle.stack.specs.Strips.{bandPart}
 use Rattle.stack.specs.Laid.{laid}
-use Rattle.stack.proofs.StackLaws.{traceOf-count, accepted-inside, accepted-count, band-within, band-all}
+use Rattle.stack.proofs.StackLaws.{accepted-points, accepted-pair, accepted-count, band-within, band-all}
 use Rattle.stack.proofs.Laying.{laid-long, count-at, count-above}
 use Rattle.bands.specs.Bands.{EnoughRoom, BandBest}
 use Rattle.bands.specs.Filling.{cells, cellsTo, BandReady, BandFilled, Filled}
@@ -35,18 +35,11 @@ use Rattle.bands.proofs.CellLaws.{cells-all, cells-below, cells-within,
 -- ---- one band
 
 module _ {es : List Layer} {c : List ℤ} (a : AcceptedStack es c) where
-  -- its traces are accepted, and have their layers' numbers of points
-  pub band-pair : (k : ℕ) → suc k < length es → Pair (traceOf c (entry es k)) (traceOf c (entry es (suc k)))
-  band-pair k h = record { lower = a .traces k (omega arith); upper = a .traces (suc k) h }
-
-  pub band-count : (k : ℕ) → k < length es → count (traceOf c (entry es k)) ≡ entry es k .count
-  band-count k h = traceOf-count c (entry es k) (accepted-inside a k h)
-
   -- a first best strip between them is a strip of the band
   pub band-strip : (k : ℕ) → suc k < length es → {s : List Step} → FirstOf (traceOf c (entry es k)) (traceOf c (entry es (suc k))) s
       → IsStrip (entry es k .count) (entry es (suc k) .count) (bytes s)
   band-strip k h {s} f =
-      rw (← band-count k (omega arith), ← band-count (suc k) h) (record { steps = s; written = refl; strip = f .best .is })
+      rw (← accepted-points a k (omega arith), ← accepted-points a (suc k) h) (record { steps = s; written = refl; strip = f .best .is })
 
 -- what `best` does where it cannot be refused
 pub record Put (a b : List ℤ) (part work part′ work′ : List ℕ) : Type 0 where
@@ -66,10 +59,10 @@ module _ {st : Stack} {c : List ℤ} {k : ℕ} {part work : List ℕ} (y : BandR
   inside = omega (arith, laid-long st, y .band)
 
   lower-count : count (traceOf c (entry (laid st) k)) ≡ entry (laid st) k .count
-  lower-count = band-count (y .stack) k (omega (arith, inside))
+  lower-count = accepted-points (y .stack) k (omega (arith, inside))
 
   upper-count : count (traceOf c (entry (laid st) (suc k))) ≡ entry (laid st) (suc k) .count
-  upper-count = band-count (y .stack) (suc k) inside
+  upper-count = accepted-points (y .stack) (suc k) inside
 
   enough : Enough (traceOf c (entry (laid st) k)) (traceOf c (entry (laid st) (suc k))) part work
   enough = record { forStrip = rw (lower-count, upper-count) (y .forPart); forWork = rw (lower-count, upper-count) (y .forWork) }
@@ -93,7 +86,7 @@ module _ {st : Stack} {c : List ℤ} {k : ℕ} {part work : List ℕ} (y : BandR
     band-filled {part′ = part′} {work′ = work′} {r = r} ea eb x =
         let answer : BestAnswer (traceOf c (entry (laid st) k)) (traceOf c (entry (laid st) (suc k))) part work part′ work′ r =
         rw (ea ∙ ap (traceOf c) p, eb ∙ ap (traceOf c) upper) at x in
-        let w = put-best (band-pair (y .stack) k inside) enough answer in
+        let w = put-best (accepted-pair (y .stack) k inside) enough answer in
         let n : d .count + e .count ≡ entry (laid st) k .count + entry (laid st) (suc k) .count =
         ap₂ _+_ (count-at (laid st) k p) (count-above (laid st) k q) in
         record {
