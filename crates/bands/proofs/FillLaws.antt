@@ -123,8 +123,32 @@ band-under es zero k n h = let e : k ≡ n = omega arith in omega (arith, ap (ba
 band-under es (suc d) k zero h = omega arith
 band-under es (suc d) k (suc n) h = omega (arith, band-under es d k n (omega arith))
 
-pub band-below : (es : List Layer) (j k : ℕ) → j < k → bandStart es (suc j) ≤ bandStart es k
+band-below : (es : List Layer) (j k : ℕ) → j < k → bandStart es (suc j) ≤ bandStart es k
 band-below es j k h = band-under es (k - suc j) (suc j) k (omega arith)
+
+-- so the bands below k and then the first best strip of band k are those below the next
+module _ {es : List Layer} {c : List ℤ} (a : AcceptedStack es c) {k : ℕ} (h : suc k < length es) {s : List Step}
+    (f : FirstOf (traceOf c (entry es k)) (traceOf c (entry es (suc k))) s) where
+  pub strip-long : length (bytes s) ≡ entry es k .count + entry es (suc k) .count
+  strip-long = is-strip-length (band-strip a k h f)
+
+  module _ (l : List ℕ) (e : length l ≡ bandStart es k) where
+    pub long-more : length (l ++ bytes s) ≡ bandStart es (suc k)
+    unfolding bandStart
+    long-more = length-append l (bytes s) ∙ ap₂ _+_ e strip-long
+
+    pub best-more : ((j : ℕ) → j < k → BandBest es c l j) → (j : ℕ) → j < suc k → BandBest es c (l ++ bytes s) j
+    best-more old j b = go (ℕ-discrete j k)
+      where
+        go : Dec (j ≡ k) → BandBest es c (l ++ bytes s) j
+        go (yes q) = rw q (record { strip = s; first = f; here = part-added es l (bytes s) k e strip-long })
+        go (no d) =
+            let low : j < k = omega arith in
+            let one = old j low in record {
+              strip = one .strip;
+              first = one .first;
+              here = part-stays es l (bytes s) j (omega (arith, band-below es j k low)) ∙ one .here;
+            }
 
 -- ---- the loop over the bands
 
@@ -173,9 +197,6 @@ module _ {es : List Layer} {c : List ℤ} {k at : ℕ} {strips₀ work₀ strips
   module _ (h : suc k < length es) {part′ work′ : List ℕ} {n : ℕ}
       (f : BandFilled es c k (take (length strips - at) (drop at strips)) work part′ work′ n)
       (g : length part′ ≡ length (take (length strips - at) (drop at strips))) where
-    one-long : length (bytes (f .strip)) ≡ n
-    one-long = is-strip-length (band-strip a k h (f .first)) ∙ sym (f .steps)
-
     rest : drop at strips ≡ drop at strips₀
     rest = ap (drop at) (s .front) ∙ drop-at (s .written) (drop at strips₀) at (s .long)
 
@@ -186,23 +207,6 @@ module _ {es : List Layer} {c : List ℤ} {k at : ℕ} {strips₀ work₀ strips
         (f .front ∙ ap (λ (r : List ℕ). bytes (f .strip) ++ drop n r) (part-lent at strips ∙ rest)
         ∙ ap (λ (r : List ℕ). bytes (f .strip) ++ r) (drop-drop n at strips₀))
         ∙ sym (append-assoc (s .written) (bytes (f .strip)) (drop (at + n) strips₀))
-
-    next-best : (j : ℕ) → j < suc k → BandBest es c (s .written ++ bytes (f .strip)) j
-    next-best j b = go (ℕ-discrete j k)
-      where
-        go : Dec (j ≡ k) → BandBest es c (s .written ++ bytes (f .strip)) j
-        go (yes e) = rw e (record {
-          strip = f .strip;
-          first = f .first;
-          here = part-added es (s .written) (bytes (f .strip)) k (s .long ∙ s .start) (one-long ∙ f .steps);
-        })
-        go (no d) =
-            let low : j < k = omega arith in
-            let old = s .best j low in record {
-              strip = old .strip;
-              first = old .first;
-              here = part-stays es (s .written) (bytes (f .strip)) j (omega (arith, band-below es j k low, s .long, s .start)) ∙ old .here;
-            }
 
     next-zeros : work′ ≡ zeroed (cellsTo es (suc k)) work₀
     unfolding cellsTo
@@ -217,8 +221,8 @@ module _ {es : List Layer} {c : List ℤ} {k at : ℕ} {strips₀ work₀ strips
       here = h;
       start = omega (arith, s .start, f .steps);
       written = s .written ++ bytes (f .strip);
-      long = length-append (s .written) (bytes (f .strip)) ∙ ap₂ _+_ (s .long) one-long;
-      best = next-best;
+      long = length-append (s .written) (bytes (f .strip)) ∙ ap₂ _+_ (s .long) (strip-long a h (f .first) ∙ sym (f .steps));
+      best = best-more a h (f .first) (s .written) (s .long ∙ s .start) (s .best);
       front = next-front;
       zeros = next-zeros;
       stripsLong = same-len-mid at (length strips - at) strips part′ g ∙ s .stripsLong;
