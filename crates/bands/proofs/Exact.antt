@@ -74,8 +74,9 @@ module _ {es : List Layer} {c : List ℤ} (a : AcceptedStack es c) where
       let low = below k (omega arith) in
       let x = traceOf c (entry es k) in
       let y = traceOf c (entry es (suc k)) in
-      let f : FirstOf x y (traced (worths x y) (count x) (count y)) = first-is-rule-13 (worths x y) (count x) (count y) in
-      (low .0 ++ bytes (traced (worths x y) (count x) (count y)), (long-more a h f (low .0) (low .1 .0), best-more a h f (low .0) (low .1 .0) (low .1 .1)))
+      let s = traced (worths x y) (count x) (count y) in
+      let f : FirstOf x y s = first-is-rule-13 (worths x y) (count x) (count y) in
+      (low .0 ++ bytes s, (long-more a h f (low .0) (low .1 .0), best-more a h f (low .0) (low .1 .0) (low .1 .1)))
 
   pub bands-exist : (l : List ℕ) × AllBest es c l
   bands-exist =

@@ -81,8 +81,8 @@ module _ {st : Stack} {c : List ℤ} {k : ℕ} {part work : List ℕ} (y : BandR
     )
 
     -- between what was lent as the two traces
-    pub band-filled : {a b : List ℤ} {part′ work′ : List ℕ} {r : Valued} → a ≡ traceOf c d → b ≡ traceOf c e → BestAnswer a b part work part′ work′ r
-        → BandFilled (laid st) c k part work part′ work′ (d .count + e .count)
+    pub band-filled : {a b : List ℤ} {part′ work′ : List ℕ} {r : Valued} → a ≡ traceOf c d → b ≡ traceOf c e
+        → BestAnswer a b part work part′ work′ r → BandFilled (laid st) c k part work part′ work′ (d .count + e .count)
     band-filled {part′ = part′} {work′ = work′} {r = r} ea eb x =
         let answer : BestAnswer (traceOf c (entry (laid st) k)) (traceOf c (entry (laid st) (suc k))) part work part′ work′ r =
         rw (ea ∙ ap (traceOf c) p, eb ∙ ap (traceOf c) upper) at x in
