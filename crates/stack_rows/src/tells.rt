@@ -1,4 +1,7 @@
 // What is printed of an answer.
+ghost use lib.ListN.{length};
+ghost use Rattle.stack.specs.Tells.{Tells};
+ghost use Rattle.stack_rows.specs.Kept.{AllAre, Kept};
 use bands::Banded;
 use fault::Refusal;
 use libc::STDOUT_FILENO;
@@ -71,7 +74,9 @@ pub(crate) fn tell_volume(volumed: Volumed) {
 }
 
 // Whether all bytes from `from` up to `to` are `value`.
-fn bytes_are(bytes: &[u8], from: usize, to: usize, value: u8) -> bool {
+fn bytes_are(bytes: &[u8], from: usize, to: usize, value: u8) -> bool
+    ensures { λ r. ⌜ Tells (AllAre (now (bytes .entry)) from to value) r ⌝ }
+{
     let mut k = from;
     while k < to {
         if bytes.len() <= k {
@@ -86,7 +91,9 @@ fn bytes_are(bytes: &[u8], from: usize, to: usize, value: u8) -> bool {
 }
 
 // Whether all numbers from `from` on are the guard.
-fn rest_kept(out: &[u32], from: usize) -> bool {
+fn rest_kept(out: &[u32], from: usize) -> bool
+    ensures { λ r. ⌜ Tells (AllAre (now (out .entry)) from (length (now (out .entry))) 7) r ⌝ }
+{
     let mut k = from;
     while k < out.len() {
         if out[k] != 7 {
@@ -120,7 +127,9 @@ pub(crate) fn tell_best(
     }
 }
 
-fn left(strips: &[u8], work: &[u8], steps: usize, cells: usize) -> bool {
+fn left(strips: &[u8], work: &[u8], steps: usize, cells: usize) -> bool
+    ensures { λ r. ⌜ Tells (Kept (now (strips .entry)) (now (work .entry)) steps cells) r ⌝ }
+{
     bytes_are(strips, steps, strips.len(), 7)
         & bytes_are(work, 0, cells, 0)
         & bytes_are(work, cells, work.len(), 7)
@@ -143,6 +152,7 @@ pub(crate) fn tell_triangles(stack: Stack, coords: &[i32], strips: &[u8], out: &
     }
 }
 
+// (No list is longer than 10,000 triangles.)
 fn closed_kept(out: &[u32], triangles: usize) -> bool {
     if triangles <= 10_000 {
         rest_kept(out, 3 * triangles)
