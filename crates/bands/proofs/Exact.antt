@@ -1,23 +1,28 @@
 -- Two outcomes that the contract of `best_strips` allows for one input coincide: the answer and every lent byte. A refusal leaves the
--- lent memory as it was. And what success fills in are strips of the stack, so that they are accepted where strips are judged.
+-- lent memory as it was. And what success fills in are strips of the stack, so that they are accepted where strips are judged; every
+-- accepted stack has them.
 --
 -- Of two outcomes the one that comes later in 01's order contradicts the earlier; where both are strips, each band's first best strip
 -- is one, so the bytes agree band by band from the bottom up. Assumes nothing.
 use mathlib.Core.Path.{_≡_, refl, sym, ap, ap₂, _∙_}
-use mathlib.Core.List.{List, _++_}
+use mathlib.Core.List.{List, [], _++_}
 use Prim.Native.Nat.{ℕ, zero, suc, _+_, _-_, _<_}
 use native.Mathlib.Omega.{arith}
 use lib.IntN.{ℤ}
 use lib.ListN.{length, take, drop}
 use lib.Seq.{take-all, take-add}
 use Rattle.fault.specs.declared.Refusal.{Refusal}
+use Rattle.trace.specs.Points.{count}
+use Rattle.ways.specs.Keppel.{traced}
+use Rattle.ways.proofs.Answers.{first-is-rule-13}
 use Rattle.ways.proofs.Unique.{first-unique}
+use Rattle.strip.specs.Worth.{worths}
 use Rattle.strip.specs.Bytes.{bytes}
-use Rattle.joining.specs.Answers.{Untouched}
+use Rattle.joining.specs.Answers.{FirstOf, Untouched}
 use Rattle.joining.proofs.Exact.{Same}
 use Rattle.stack.specs.declared.Layer.{Layer}
 use Rattle.stack.specs.declared.Stack.{Stack}
-use Rattle.stack.specs.Entries.{entry, steps, bandStart}
+use Rattle.stack.specs.Entries.{entry, traceOf, steps, bandStart}
 use Rattle.stack.specs.Faults.{AcceptedStack}
 use Rattle.stack.specs.Strips.{bandPart, StripsRight}
 use Rattle.stack.specs.Gathered.{Gathers}
@@ -27,8 +32,8 @@ use Rattle.stack.proofs.Laying.{laid-gathers}
 use Rattle.stack.proofs.StackLaws.{band-all}
 use Rattle.bands.specs.declared.Banded.{Banded}
 use Rattle.bands.specs.declared.Banded.the-variants as bands-are
-use Rattle.bands.specs.Bands.{AllBest, BandsAnswer, stack, room, best}
-use Rattle.bands.proofs.FillLaws.{band-strip}
+use Rattle.bands.specs.Bands.{BandBest, AllBest, BandsAnswer, stack, room, best}
+use Rattle.bands.proofs.FillLaws.{band-strip, long-more, best-more}
 
 -- ---- the strips of all bands are one
 
@@ -56,6 +61,27 @@ bands-are-strips {es} {c} {l} a b = record {
   long = b .long;
   strips = λ k h. rw (b .best k h .here) (band-strip a k h (b .best k h .first));
 }
+
+-- an accepted stack has them: between two traces the strip that rule (13) traces is the first best one
+module _ {es : List Layer} {c : List ℤ} (a : AcceptedStack es c) where
+  below : (k : ℕ) → k < length es → (l : List ℕ) × ((length l ≡ bandStart es k) × ((j : ℕ) → j < k → BandBest es c l j))
+  unfolding bandStart
+  below zero h = ([], (refl, λ j b. absurd (none j b)))
+    where
+      none : (j : ℕ) → j < 0 → ⊥
+      none j b = omega arith
+  below (suc k) h =
+      let low = below k (omega arith) in
+      let x = traceOf c (entry es k) in
+      let y = traceOf c (entry es (suc k)) in
+      let s = traced (worths x y) (count x) (count y) in
+      let f : FirstOf x y s = first-is-rule-13 (worths x y) (count x) (count y) in
+      (low .0 ++ bytes s, (long-more a h f (low .0) (low .1 .0), best-more a h f (low .0) (low .1 .0) (low .1 .1)))
+
+  pub bands-exist : (l : List ℕ) × AllBest es c l
+  bands-exist =
+      let all = below (length es - 1) (omega (arith, a .layers .two)) in
+      (all .0, record { long = all .1 .0 ∙ band-all es (length es - 1) refl; best = λ k h. all .1 .1 k (omega arith) })
 
 -- ---- the outcomes
 

@@ -26,7 +26,7 @@ use Rattle.stack.specs.Entries.{entry, traceOf, steps, bandStart}
 use Rattle.stack.specs.Faults.{AcceptedStack}
 use Rattle.stack.specs.Strips.{bandPart}
 use Rattle.stack.specs.Laid.{laid}
-use Rattle.stack.proofs.StackLaws.{traceOf-count, accepted-inside, accepted-count, band-within, band-all}
+use Rattle.stack.proofs.StackLaws.{accepted-points, accepted-pair, accepted-count, band-within, band-all}
 use Rattle.stack.proofs.Laying.{laid-long, count-at, count-above}
 use Rattle.bands.specs.Bands.{EnoughRoom, BandBest}
 use Rattle.bands.specs.Filling.{cells, cellsTo, BandReady, BandFilled, Filled}
@@ -35,18 +35,11 @@ use Rattle.bands.proofs.CellLaws.{cells-all, cells-below, cells-within,
 -- ---- one band
 
 module _ {es : List Layer} {c : List ℤ} (a : AcceptedStack es c) where
-  -- its traces are accepted, and have their layers' numbers of points
-  pub band-pair : (k : ℕ) → suc k < length es → Pair (traceOf c (entry es k)) (traceOf c (entry es (suc k)))
-  band-pair k h = record { lower = a .traces k (omega arith); upper = a .traces (suc k) h }
-
-  pub band-count : (k : ℕ) → k < length es → count (traceOf c (entry es k)) ≡ entry es k .count
-  band-count k h = traceOf-count c (entry es k) (accepted-inside a k h)
-
   -- a first best strip between them is a strip of the band
   pub band-strip : (k : ℕ) → suc k < length es → {s : List Step} → FirstOf (traceOf c (entry es k)) (traceOf c (entry es (suc k))) s
       → IsStrip (entry es k .count) (entry es (suc k) .count) (bytes s)
   band-strip k h {s} f =
-      rw (← band-count k (omega arith), ← band-count (suc k) h) (record { steps = s; written = refl; strip = f .best .is })
+      rw (← accepted-points a k (omega arith), ← accepted-points a (suc k) h) (record { steps = s; written = refl; strip = f .best .is })
 
 -- what `best` does where it cannot be refused
 pub record Put (a b : List ℤ) (part work part′ work′ : List ℕ) : Type 0 where
@@ -66,10 +59,10 @@ module _ {st : Stack} {c : List ℤ} {k : ℕ} {part work : List ℕ} (y : BandR
   inside = omega (arith, laid-long st, y .band)
 
   lower-count : count (traceOf c (entry (laid st) k)) ≡ entry (laid st) k .count
-  lower-count = band-count (y .stack) k (omega (arith, inside))
+  lower-count = accepted-points (y .stack) k (omega (arith, inside))
 
   upper-count : count (traceOf c (entry (laid st) (suc k))) ≡ entry (laid st) (suc k) .count
-  upper-count = band-count (y .stack) (suc k) inside
+  upper-count = accepted-points (y .stack) (suc k) inside
 
   enough : Enough (traceOf c (entry (laid st) k)) (traceOf c (entry (laid st) (suc k))) part work
   enough = record { forStrip = rw (lower-count, upper-count) (y .forPart); forWork = rw (lower-count, upper-count) (y .forWork) }
@@ -88,12 +81,12 @@ module _ {st : Stack} {c : List ℤ} {k : ℕ} {part work : List ℕ} (y : BandR
     )
 
     -- between what was lent as the two traces
-    pub band-filled : {a b : List ℤ} {part′ work′ : List ℕ} {r : Valued} → a ≡ traceOf c d → b ≡ traceOf c e → BestAnswer a b part work part′ work′ r
-        → BandFilled (laid st) c k part work part′ work′ (d .count + e .count)
+    pub band-filled : {a b : List ℤ} {part′ work′ : List ℕ} {r : Valued} → a ≡ traceOf c d → b ≡ traceOf c e
+        → BestAnswer a b part work part′ work′ r → BandFilled (laid st) c k part work part′ work′ (d .count + e .count)
     band-filled {part′ = part′} {work′ = work′} {r = r} ea eb x =
         let answer : BestAnswer (traceOf c (entry (laid st) k)) (traceOf c (entry (laid st) (suc k))) part work part′ work′ r =
         rw (ea ∙ ap (traceOf c) p, eb ∙ ap (traceOf c) upper) at x in
-        let w = put-best (band-pair (y .stack) k inside) enough answer in
+        let w = put-best (accepted-pair (y .stack) k inside) enough answer in
         let n : d .count + e .count ≡ entry (laid st) k .count + entry (laid st) (suc k) .count =
         ap₂ _+_ (count-at (laid st) k p) (count-above (laid st) k q) in
         record {
@@ -130,8 +123,32 @@ band-under es zero k n h = let e : k ≡ n = omega arith in omega (arith, ap (ba
 band-under es (suc d) k zero h = omega arith
 band-under es (suc d) k (suc n) h = omega (arith, band-under es d k n (omega arith))
 
-pub band-below : (es : List Layer) (j k : ℕ) → j < k → bandStart es (suc j) ≤ bandStart es k
+band-below : (es : List Layer) (j k : ℕ) → j < k → bandStart es (suc j) ≤ bandStart es k
 band-below es j k h = band-under es (k - suc j) (suc j) k (omega arith)
+
+-- so the bands below k and then the first best strip of band k are those below the next
+module _ {es : List Layer} {c : List ℤ} (a : AcceptedStack es c) {k : ℕ} (h : suc k < length es) {s : List Step}
+    (f : FirstOf (traceOf c (entry es k)) (traceOf c (entry es (suc k))) s) where
+  pub strip-long : length (bytes s) ≡ entry es k .count + entry es (suc k) .count
+  strip-long = is-strip-length (band-strip a k h f)
+
+  module _ (l : List ℕ) (e : length l ≡ bandStart es k) where
+    pub long-more : length (l ++ bytes s) ≡ bandStart es (suc k)
+    unfolding bandStart
+    long-more = length-append l (bytes s) ∙ ap₂ _+_ e strip-long
+
+    pub best-more : ((j : ℕ) → j < k → BandBest es c l j) → (j : ℕ) → j < suc k → BandBest es c (l ++ bytes s) j
+    best-more old j b = go (ℕ-discrete j k)
+      where
+        go : Dec (j ≡ k) → BandBest es c (l ++ bytes s) j
+        go (yes q) = rw q (record { strip = s; first = f; here = part-added es l (bytes s) k e strip-long })
+        go (no d) =
+            let low : j < k = omega arith in
+            let one = old j low in record {
+              strip = one .strip;
+              first = one .first;
+              here = part-stays es l (bytes s) j (omega (arith, band-below es j k low)) ∙ one .here;
+            }
 
 -- ---- the loop over the bands
 
@@ -180,9 +197,6 @@ module _ {es : List Layer} {c : List ℤ} {k at : ℕ} {strips₀ work₀ strips
   module _ (h : suc k < length es) {part′ work′ : List ℕ} {n : ℕ}
       (f : BandFilled es c k (take (length strips - at) (drop at strips)) work part′ work′ n)
       (g : length part′ ≡ length (take (length strips - at) (drop at strips))) where
-    one-long : length (bytes (f .strip)) ≡ n
-    one-long = is-strip-length (band-strip a k h (f .first)) ∙ sym (f .steps)
-
     rest : drop at strips ≡ drop at strips₀
     rest = ap (drop at) (s .front) ∙ drop-at (s .written) (drop at strips₀) at (s .long)
 
@@ -193,23 +207,6 @@ module _ {es : List Layer} {c : List ℤ} {k at : ℕ} {strips₀ work₀ strips
         (f .front ∙ ap (λ (r : List ℕ). bytes (f .strip) ++ drop n r) (part-lent at strips ∙ rest)
         ∙ ap (λ (r : List ℕ). bytes (f .strip) ++ r) (drop-drop n at strips₀))
         ∙ sym (append-assoc (s .written) (bytes (f .strip)) (drop (at + n) strips₀))
-
-    next-best : (j : ℕ) → j < suc k → BandBest es c (s .written ++ bytes (f .strip)) j
-    next-best j b = go (ℕ-discrete j k)
-      where
-        go : Dec (j ≡ k) → BandBest es c (s .written ++ bytes (f .strip)) j
-        go (yes e) = rw e (record {
-          strip = f .strip;
-          first = f .first;
-          here = part-added es (s .written) (bytes (f .strip)) k (s .long ∙ s .start) (one-long ∙ f .steps);
-        })
-        go (no d) =
-            let low : j < k = omega arith in
-            let old = s .best j low in record {
-              strip = old .strip;
-              first = old .first;
-              here = part-stays es (s .written) (bytes (f .strip)) j (omega (arith, band-below es j k low, s .long, s .start)) ∙ old .here;
-            }
 
     next-zeros : work′ ≡ zeroed (cellsTo es (suc k)) work₀
     unfolding cellsTo
@@ -224,8 +221,8 @@ module _ {es : List Layer} {c : List ℤ} {k at : ℕ} {strips₀ work₀ strips
       here = h;
       start = omega (arith, s .start, f .steps);
       written = s .written ++ bytes (f .strip);
-      long = length-append (s .written) (bytes (f .strip)) ∙ ap₂ _+_ (s .long) one-long;
-      best = next-best;
+      long = length-append (s .written) (bytes (f .strip)) ∙ ap₂ _+_ (s .long) (strip-long a h (f .first) ∙ sym (f .steps));
+      best = best-more a h (f .first) (s .written) (s .long ∙ s .start) (s .best);
       front = next-front;
       zeros = next-zeros;
       stripsLong = same-len-mid at (length strips - at) strips part′ g ∙ s .stripsLong;

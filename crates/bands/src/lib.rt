@@ -86,7 +86,8 @@ fn most_cells(stack: Stack) -> usize
 // room, so it is never refused.
 fn put_strip(stack: Stack, coords: &[i32], k: usize, part: &mut [u8], work: &mut [u8]) -> usize
     requires { ⌜ BandReady stack (now coords) k (now part) (now work) ⌝ }
-    ensures { λ r. ⌜ BandFilled (laid stack) (now (coords .entry)) k (now (part .entry)) (now (work .entry)) (now (part .exit)) (now (work .exit)) r ⌝ }
+    ensures { λ r. ⌜ BandFilled (laid stack) (now (coords .entry)) k
+        (now (part .entry)) (now (work .entry)) (now (part .exit)) (now (work .exit)) r ⌝ }
 {
     let lower = layer_at(stack, k);
     let upper = layer_at(stack, k + 1);
@@ -97,7 +98,8 @@ fn put_strip(stack: Stack, coords: &[i32], k: usize, part: &mut [u8], work: &mut
 // All bands, from the bottom up: each is lent the part of the strips from where the one below it ends, and the same work bytes.
 fn put_strips(stack: Stack, coords: &[i32], strips: &mut [u8], work: &mut [u8])
     requires { ⌜ AcceptedStack (laid stack) (now coords) × EnoughRoom (laid stack) (now strips) (now work) ⌝ }
-    ensures { λ _. ⌜ Filled (laid stack) (now (coords .entry)) (now (strips .entry)) (now (work .entry)) (now (strips .exit)) (now (work .exit)) ⌝ }
+    ensures { λ _. ⌜ Filled (laid stack) (now (coords .entry))
+        (now (strips .entry)) (now (work .entry)) (now (strips .exit)) (now (work .exit)) ⌝ }
 {
     let layers = stack.layers;
     let mut at = 0;

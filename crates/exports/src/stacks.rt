@@ -60,7 +60,8 @@ pub struct MeshAnswer {
 // The judgement of a stack.
 #[no_mangle]
 pub extern "C" fn register_judge_stack(stack: Stack, coords: &[i32]) -> StackAnswer
-    ensures { λ r. ⌜ ((x : StackJudgement) × (((es : List Layer) → Gathers stack es → StackJudged es (now (coords .entry)) x) × (r ≡ stackAs x))) ⌝ }
+    ensures { λ r. ⌜ ((x : StackJudgement) × (((es : List Layer) → Gathers stack es
+        → StackJudged es (now (coords .entry)) x) × (r ≡ stackAs x))) ⌝ }
 {
     match stack::judge_stack(stack, coords) {
         StackJudgement::Fit { points, steps } => StackAnswer {
@@ -84,7 +85,8 @@ pub extern "C" fn register_judge_stack(stack: Stack, coords: &[i32]) -> StackAns
 // The judgement of a stack's strips.
 #[no_mangle]
 pub extern "C" fn register_judge_strips(stack: Stack, strips: &[u8]) -> StripsAnswer
-    ensures { λ r. ⌜ ((x : StripsJudgement) × (((es : List Layer) → Gathers stack es → StripsAnswered es (now (strips .entry)) x) × (r ≡ stripsAs x))) ⌝ }
+    ensures { λ r. ⌜ ((x : StripsJudgement) × (((es : List Layer) → Gathers stack es
+        → StripsAnswered es (now (strips .entry)) x) × (r ≡ stripsAs x))) ⌝ }
 {
     match stack::judge_strips(stack, strips) {
         StripsJudgement::Whole => StripsAnswer {
@@ -110,7 +112,8 @@ pub extern "C" fn register_best_strips(
     work: &mut [u8],
 ) -> StepsAnswer
     ensures { λ r. ⌜ ((x : Banded) × (((es : List Layer) → Gathers stack es
-        → BandsAnswer es (now (coords .entry)) (now (strips .entry)) (now (work .entry)) (now (strips .exit)) (now (work .exit)) x) × (r ≡ bandedAs x))) ⌝ }
+        → BandsAnswer es (now (coords .entry)) (now (strips .entry)) (now (work .entry)) (now (strips .exit)) (now (work .exit)) x)
+        × (r ≡ bandedAs x))) ⌝ }
 {
     match bands::best_strips(stack, coords, strips, work) {
         Banded::Steps(steps) => StepsAnswer {
@@ -132,7 +135,8 @@ pub extern "C" fn register_best_strips(
 // Six times the volume.
 #[no_mangle]
 pub extern "C" fn register_volume(stack: Stack, coords: &[i32], strips: &[u8]) -> Answer
-    ensures { λ r. ⌜ ((x : Volumed) × (((es : List Layer) → Gathers stack es → Measured es (now (coords .entry)) (now (strips .entry)) x) × (r ≡ volumedAs x))) ⌝ }
+    ensures { λ r. ⌜ ((x : Volumed) × (((es : List Layer) → Gathers stack es
+        → Measured es (now (coords .entry)) (now (strips .entry)) x) × (r ≡ volumedAs x))) ⌝ }
 {
     match mesh::volume(stack, coords, strips) {
         Volumed::Six(six) => found(six),

@@ -2,14 +2,14 @@
 -- `volume` and `triangles` leave one outcome for each input.
 --
 -- The stack's bands are bands between rings of vertex numbers (`Stacked`), its caps have their traces as borders, so `Balance` and
--- `Volumes` give the first two; the bound is `Stacked`'s. Of two outcomes, the one that comes later in 01's order contradicts the
--- earlier. Assumes nothing.
-use mathlib.Core.Path.{_≡_, refl, sym, ap}
+-- `Volumes` give the first two; the bound is `Stacked`'s, and that the list's numbers are points is `Vertices`'. Of two outcomes, the
+-- one that comes later in 01's order contradicts the earlier. Assumes nothing.
+use mathlib.Core.Path.{_≡_, refl, sym, ap, _∙_}
 use mathlib.Core.List.{List}
-use Prim.Native.Nat.{ℕ, _-_, _≤_, _<_}
+use Prim.Native.Nat.{ℕ, _-_, _*_, _/_, _≤_, _<_}
 use native.Mathlib.Omega.{arith}
 use lib.IntN.{ℤ}
-use lib.ListN.{length}
+use lib.ListN.{length, getD}
 use Rattle.whole.specs.Between.{Within}
 use Rattle.fault.specs.declared.Refusal.{Refusal}
 use Rattle.stack.specs.declared.Layer.{Layer}
@@ -30,12 +30,14 @@ use Rattle.mesh.specs.declared.Meshed.the-variants as mesh-is
 use Rattle.mesh.specs.Meshing.{Measured, Triangled, stack, strips, six, room, whole}
 use Rattle.mesh.specs.Triangles.{Tri, sides}
 use Rattle.mesh.specs.Volume.{sixAll}
-use Rattle.mesh.specs.Closed.{ring, closed, floorOf, roofOf}
+use Rattle.mesh.specs.Closed.{ring, closed, floorOf, roofOf, triangles, numbers}
 use Rattle.mesh.specs.Bands.{sixOf, xOf, yOf, zOf}
 use Rattle.mesh.proofs.Balance.{RimBack, Rim, roof-rim, floor-rim, closed-balanced}
 use Rattle.mesh.proofs.Volumes.{roof-level, floor-level, sum-bands, closed-six}
 use Rattle.mesh.proofs.Rings.{ring-round, z-ring}
 use Rattle.mesh.proofs.ClosedLaws.{closed-length}
+use Rattle.mesh.proofs.WriteLaws.{numbers-length}
+use Rattle.mesh.proofs.Vertices.{under-at, under-closed}
 use Rattle.mesh.proofs.Stacked.{bands-sum, sums-within}
 
 -- the border of a layer's caps is its trace
@@ -74,6 +76,14 @@ module _ {es : List Layer} {c : List ℤ} {l : List ℕ} (a : AcceptedStack es c
   pub volume-bounded : Within 4000000000000000000 (sixOf es c l)
   unfolding sixOf
   volume-bounded = sums-within a r (length es - 1) highest
+
+  -- Its numbers are three a triangle, one triangle a step of all bands and two fewer than the points in either cap,
+  pub list-length : length (numbers (closed es l)) ≡ 3 * triangles es
+  list-length = numbers-length (closed es l) ∙ ap (λ (n : ℕ). 3 * n) (closed-length r lowest)
+
+  -- and each is the number of a point.
+  pub list-points : (k : ℕ) → k < length (numbers (closed es l)) → getD (numbers (closed es l)) k 0 < length c / 2
+  list-points k h = under-at (under-closed a l) k h
 
 -- So what `triangles` answers beside a list is its number of triangles and the sum of its determinants, and its sides balance.
 pub record True (es : List Layer) (c : List ℤ) (ts : List Tri) (n : ℕ) (s : ℤ) : Type 0 where

@@ -10,3 +10,4 @@ mod SixLaws
 mod MeshLaws
 mod WriteLaws
 mod ClosedLaws
+mod Vertices

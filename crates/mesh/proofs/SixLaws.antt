@@ -37,14 +37,14 @@ use Rattle.stack.specs.declared.Stack.{Stack}
 use Rattle.stack.specs.Entries.{entry, traceOf, bandStart}
 use Rattle.stack.specs.Strips.{bandPart}
 use Rattle.stack.specs.Laid.{laid}
-use Rattle.stack.proofs.StackLaws.{traceOf-count, accepted-inside, accepted-plane, accepted-steps, band-within}
+use Rattle.stack.proofs.StackLaws.{accepted-points, accepted-pair, accepted-plane, accepted-steps, band-within}
 use Rattle.stack.proofs.Laying.{laid-long, laid-twenty}
 use Rattle.mesh.specs.Closed.{stepsOf}
 use Rattle.mesh.specs.Bands.{rule, bandRule, sixOf}
 use Rattle.mesh.specs.Working.{Joined, Fitted}
 use Rattle.mesh.proofs.Parts.{upper}
 use Rattle.mesh.proofs.StepBytes.{strip-steps, steps-strip}
-use Rattle.mesh.proofs.Stacked.{band-pair, sums-within}
+use Rattle.mesh.proofs.Stacked.{sums-within}
 
 -- ---- judgements
 
@@ -135,11 +135,8 @@ module _ {st : Stack} {c : List ℤ} {l : List ℕ} (f : Fitted st c l) where
       band-joined =
           let s : suc k < length (laid st) = omega (arith, laid-long st) in
           rw (lower-trace, upper-trace, ep) (record {
-            pair = band-pair (f .stack) (f .strips) k s;
-            strip = rw (
-              traceOf-count c (entry (laid st) k) (accepted-inside (f .stack) k (omega arith)),
-              traceOf-count c (entry (laid st) (suc k)) (accepted-inside (f .stack) (suc k) s),
-            ) (f .strips .strips k s);
+            pair = accepted-pair (f .stack) k s;
+            strip = rw (accepted-points (f .stack) k (omega arith), accepted-points (f .stack) (suc k) s) (f .strips .strips k s);
           })
 
       pub band-ruled : {z v : ℤ} → z ≡ entry (laid st) (suc k) .plane -ℤ entry (laid st) k .plane → v ≡ rule z x y part

@@ -26,7 +26,7 @@ use Rattle.stack.specs.declared.Layer.{Layer}
 use Rattle.stack.specs.Entries.{entry, traceOf}
 use Rattle.stack.specs.Faults.{AcceptedStack}
 use Rattle.stack.specs.Strips.{bandPart, StripsRight}
-use Rattle.stack.proofs.StackLaws.{traceOf-count, accepted-inside, accepted-plane, accepted-rise}
+use Rattle.stack.proofs.StackLaws.{accepted-points, accepted-pair, accepted-inside, accepted-plane, accepted-rise}
 use Rattle.mesh.specs.Closed.{stepsOf, bandOf, bandsTo}
 use Rattle.mesh.specs.Bands.{rule, bandRule, xOf, yOf, zOf}
 use Rattle.mesh.proofs.Rings.{ringOf, area-ring, value-ring, z-ring, some-points}
@@ -69,17 +69,11 @@ by-rise {y} {z} {x} d w =
 -- ---- a stack
 
 module _ {es : List Layer} {c : List ℤ} {l : List ℕ} (a : AcceptedStack es c) (r : StripsRight es l) where
-  -- the traces and the strip of band k
-  pub band-pair : (k : ℕ) → suc k < length es → Pair (traceOf c (entry es k)) (traceOf c (entry es (suc k)))
-  band-pair k h = record { lower = a .traces k (omega arith); upper = a .traces (suc k) h }
-
+  -- the strip of band k
   pub band-strip : (k : ℕ) → suc k < length es
       → Strip (count (traceOf c (entry es k))) (count (traceOf c (entry es (suc k)))) (stepsOf (bandPart es l k))
   band-strip k h =
-      rw (
-        traceOf-count c (entry es k) (accepted-inside a k (omega arith)),
-        traceOf-count c (entry es (suc k)) (accepted-inside a (suc k) h),
-      ) (steps-strip (r .strips k h))
+      rw (accepted-points a k (omega arith), accepted-points a (suc k) h) (steps-strip (r .strips k h))
 
   band : (k : ℕ) → suc k < length es
       → Band (xOf c) (yOf c) (zOf es) (ringOf (entry es k)) (ringOf (entry es (suc k))) (entry es k .plane) (entry es (suc k) .plane)
@@ -136,7 +130,7 @@ module _ {es : List Layer} {c : List ℤ} {l : List ℕ} (a : AcceptedStack es c
               more (entry es 0 .plane) (entry es k .plane) (entry es (suc k) .plane) (s .risen .by) (d .by) (s .risen .rises) (d .rises);
         };
         bound = between-wider (omega arith) (omega arith)
-            (between-sum (s .bound) (by-rise d (amount-within (band-pair k h) (band-strip k h))));
+            (between-sum (s .bound) (by-rise d (amount-within (accepted-pair a k h) (band-strip k h))));
       }
     where
       le : (y z : ℤ) → y <ℤ z → y ≤ℤ z

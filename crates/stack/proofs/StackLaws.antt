@@ -18,6 +18,7 @@ use Rattle.whole.proofs.Order.{≤ℤ-or->}
 use Rattle.whole.proofs.TestLaws.{true≢false}
 use Rattle.trace.specs.Points.{count}
 use Rattle.trace.specs.Faults.{Accepted}
+use Rattle.trace.specs.Pair.{Pair}
 use Rattle.trace.specs.Judged.{inRange}
 use Rattle.trace.proofs.PointLaws.{range-within, within-range}
 use Rattle.stack.specs.declared.Layer.{Layer}
@@ -175,6 +176,13 @@ module _ {es : List Layer} {c : List ℤ} (a : AcceptedStack es c) where
   -- each trace lies inside the list
   pub accepted-inside : (k : ℕ) → k < length es → stop (entry es k) ≤ length c / 2
   accepted-inside = spanned-inside (a .spanned)
+
+  pub accepted-points : (k : ℕ) → k < length es → count (traceOf c (entry es k)) ≡ entry es k .count
+  accepted-points k h = traceOf-count c (entry es k) (accepted-inside k h)
+
+  -- the two traces of a band
+  pub accepted-pair : (k : ℕ) → suc k < length es → Pair (traceOf c (entry es k)) (traceOf c (entry es (suc k)))
+  accepted-pair k h = record { lower = a .traces k (omega arith); upper = a .traces (suc k) h }
 
   -- 3 to 250 points
   pub accepted-count : (k : ℕ) → k < length es → Counted (entry es k)

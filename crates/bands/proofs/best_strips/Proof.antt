@@ -22,13 +22,16 @@ stack-refusal-requires c κs = search needs
 
 returns : tie.Need-returns
 returns c = λ es g.
-    stack (stack-refused (c .before .before .before .judge-stack .ensures) (c .before .enum-told .given .1) (c .stack-refusal .ensures) es g)
+    let judged = c .before .before .before .judge-stack .ensures in
+    stack (stack-refused judged (c .before .enum-told .given .1) (c .stack-refusal .ensures) es g)
 
 no-room-requires : tie.Need-no-room-requires
 no-room-requires c κs = search needs
 
 returns-2 : tie.Need-returns-2
-returns-2 c = no-strips (c .before .before .before .before .before .judge-stack .ensures) (c .before .before .before .judged .given .1) (c .no-room .ensures) (omega (arith, c .before .if1 .taken))
+returns-2 c =
+    let fit = c .before .before .before in
+    no-strips (fit .before .before .judge-stack .ensures) (fit .judged .given .1) (c .no-room .ensures) (omega (arith, c .before .if1 .taken))
 
 most-cells-requires : tie.Need-most-cells-requires
 most-cells-requires c κs = sized (c .before .before .before .before .judge-stack .ensures) (c .before .before .judged .given .1)
@@ -38,17 +41,22 @@ no-room-requires-2 c κs = search needs
 
 returns-3 : tie.Need-returns-3
 returns-3 c =
-    no-work (c .before .before .before .before .before .before .before .judge-stack .ensures) (c .before .before .before .before .before .judged .given .1) (c .no-room2 .ensures) (c .before .before .most-cells .ensures)
+    let fit = c .before .before .before .before .before in
+    no-work (fit .before .before .judge-stack .ensures) (fit .judged .given .1) (c .no-room2 .ensures) (c .before .before .most-cells .ensures)
     (omega (arith, c .before .if2 .taken))
 
-roomy : (c : tie.Else2) → EnoughRoom (laid (c .before .before .before .before .before .before .before .before .before .args .stack)) (c .before .before .before .before .before .before .before .before .before .args .strips .now) (c .before .before .before .before .before .before .before .before .before .args .work .now)
+-- there is room for all bands
+roomy : (c : tie.Else2) → let a = c .before .before .before .before .before .before .before .before .before .args in EnoughRoom (laid (a .stack)) (a .strips .now) (a .work .now)
 roomy c =
-    let a = c .before .before .before .before .before .before .before .before .before .args in
-    enough (c .before .before .before .before .before .before .judge-stack .ensures) (c .before .before .before .before .judged .given .1) (a .strips .now) (a .work .now) (c .before .most-cells .ensures)
+    let fit = c .before .before .before .before in
+    let a = fit .before .before .before .before .before .args in
+    enough (fit .before .before .judge-stack .ensures) (fit .judged .given .1) (a .strips .now) (a .work .now) (c .before .most-cells .ensures)
     (omega (arith, c .before .before .if1 .left)) (omega (arith, c .if2 .left))
 
 put-strips-requires : tie.Need-put-strips-requires
-put-strips-requires c κs = (accepted (c .before .before .before .before .before .before .before .before .judge-stack .ensures) (c .before .before .before .before .before .before .judged .given .1), roomy (c .before .before))
+put-strips-requires c κs =
+    let fit = c .before .before .before .before .before .before in
+    (accepted (fit .before .before .judge-stack .ensures) (fit .judged .given .1), roomy (c .before .before))
 
 same-length : tie.Need-same-length
 same-length c = search needs
@@ -58,7 +66,9 @@ same-length-2 c = search needs
 
 returns-4 : tie.Need-returns-4
 returns-4 c =
-    answered (c .before .before .before .before .before .before .before .before .before .before .before .before .before .judge-stack .ensures) (c .before .before .before .before .before .before .before .before .before .before .before .judged .given .1) (roomy (c .before .before .before .before .before .before .before)) (c .before .before .before .before .put-strips .ensures)
+    let test = c .before .before .before .before .before .before .before in
+    let fit = test .before .before .before .before in
+    answered (fit .before .before .judge-stack .ensures) (fit .judged .given .1) (roomy test) (c .before .before .before .before .put-strips .ensures)
 
 pub best-strips-spec : {M : Type 1} → statement M
 best-strips-spec =

@@ -22,12 +22,14 @@ add-result c =
 add-result-2 : tie.Need-add-result-2
 add-result-2 c =
     let s = c .before .before .before .before in
-    omega (arith, counts-small (s .pre .0) (s .pre .1) (c .before .before .before .layer-at .ensures) (c .before .before .layer-at2 .ensures))
+    let low = c .before .before .before .layer-at .ensures in
+    omega (arith, counts-small (s .pre .0) (s .pre .1) low (c .before .before .layer-at2 .ensures))
 
 mul-result : tie.Need-mul-result
 mul-result c =
     let s = c .before .before .before .before in
-    omega (arith, cells-small (s .pre .0) (s .pre .1) (c .before .before .before .layer-at .ensures) (c .before .before .layer-at2 .ensures))
+    let low = c .before .before .before .layer-at .ensures in
+    omega (arith, cells-small (s .pre .0) (s .pre .1) low (c .before .before .layer-at2 .ensures))
 
 returns : tie.Need-returns
 returns c =

@@ -39,8 +39,11 @@ loop-again : tie.Need-loop-again Inv-loop μ-loop
 unfolding cellsTo
 loop-again c =
     let so = c .before .before .before .loop in
-    let es = laid (c .before .before .before .before .args .stack) in
-    (omega arith, so .inv .1, c .greater .ensures ∙ ap₂ max (so .inv .2) (c .before .cells-of .ensures) ∙ sym (ap (cellsTo es) (add-one (so .k))))
+    let es = laid (c .before .before .before .before .args .stack) in (
+      omega arith,
+      so .inv .1,
+      c .greater .ensures ∙ ap₂ max (so .inv .2) (c .before .cells-of .ensures) ∙ sym (ap (cellsTo es) (add-one (so .k))),
+    )
 
 returns : tie.Need-returns Inv-loop μ-loop
 returns c =

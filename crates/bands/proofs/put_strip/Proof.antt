@@ -25,7 +25,8 @@ best-requires c κs = search needs
 
 add-result : tie.Need-add-result
 add-result c =
-    omega (arith, band-small (c .before .before .before .before .before .before .before .before .before .before .before .before .before .before .before .pre) (c .before .before .before .before .before .before .before .before .before .before .before .before .layer-at .ensures) (c .before .before .before .before .before .before .before .before .before .before .before .layer-at2 .ensures))
+    let layers = c .before .before .before .before .before .before .before .before .before .before .before in
+    omega (arith, band-small (layers .before .before .before .before .pre) (layers .before .layer-at .ensures) (layers .layer-at2 .ensures))
 
 same-length : tie.Need-same-length
 same-length c = search needs
@@ -35,8 +36,10 @@ same-length-2 c = search needs
 
 returns : tie.Need-returns
 returns c =
-    band-filled (c .before .before .before .before .before .before .before .before .before .before .before .before .before .before .before .pre) (c .before .before .before .before .before .before .before .before .before .before .before .before .layer-at .ensures) (c .before .before .before .before .before .before .before .before .before .before .before .layer-at2 .ensures) (c .before .before .before .before .before .before .before .before .before .before .trace-of .ensures) (c .before .before .before .before .before .before .before .before .before .trace-of2 .ensures)
-    (c .before .before .before .before .before .before .best .ensures)
+    let called = c .before .before .before .before .before .before in
+    let layers = called .before .before .before .before .before in
+    band-filled (layers .before .before .before .before .pre) (layers .before .layer-at .ensures) (layers .layer-at2 .ensures) (called .before .before .before .before .trace-of .ensures)
+    (called .before .before .before .trace-of2 .ensures) (called .best .ensures)
 
 pub put-strip-spec : {M : Type 1} → statement M
 put-strip-spec =

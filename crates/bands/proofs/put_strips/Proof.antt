@@ -21,7 +21,10 @@ loop-holds c =
     let s = c .before .before in (bands-begun (s .args .strips .now) (s .args .work .now) (s .pre .0), refl)
 
 add-loop : tie.Need-add-loop Inv-loop μ-loop
-add-loop c = let s = c .before .before .before in omega (arith, c .loop .inv .0 .here, laid-long (s .args .stack), laid-twenty (s .args .stack) (s .pre .0 .layers))
+add-loop c =
+    let s = c .before .before .before in
+    let st = s .args .stack in
+    omega (arith, c .loop .inv .0 .here, laid-long st, laid-twenty st (s .pre .0 .layers))
 
 inside : (c : tie.In-loop Inv-loop μ-loop) → suc (c .before .loop .k) < length (laid (c .before .before .before .before .args .stack))
 inside c = omega (arith, c .before .loop .inv .1, laid-long (c .before .before .before .before .args .stack))
@@ -54,11 +57,13 @@ add-at : tie.Need-add-at Inv-loop μ-loop
 add-at c =
     let s = c .before .before .before .before .before .before .before .before .before .before .before in
     let so = c .before .before .before .before .before .before .before .before .loop .inv .0 in
-    let here = inside (c .before .before .before .before .before .before .before) in
-    omega (arith, room-left (s .pre .0) (s .pre .1) so here, c .before .before .before .before .put-strip .ensures .steps, so .stripsLong, s .good)
+    let left = room-left (s .pre .0) (s .pre .1) so (inside (c .before .before .before .before .before .before .before)) in
+    omega (arith, left, c .before .before .before .before .put-strip .ensures .steps, so .stripsLong, s .good)
 
 add-k : tie.Need-add-k Inv-loop μ-loop
-add-k c = omega (arith, inside (c .before .before .before .before .before .before .before), laid-twenty (c .before .before .before .before .before .before .before .before .before .before .before .args .stack) (c .before .before .before .before .before .before .before .before .before .before .before .pre .0 .layers), c .before .before .before .before .before .before .before .before .loop .inv .1)
+add-k c =
+    let s = c .before .before .before .before .before .before .before .before .before .before .before in
+    omega (arith, inside (c .before .before .before .before .before .before .before), laid-twenty (s .args .stack) (s .pre .0 .layers), c .before .before .before .before .before .before .before .before .loop .inv .1)
 
 loop-less : tie.Need-loop-less Inv-loop μ-loop
 loop-less c = omega arith
@@ -66,8 +71,9 @@ loop-less c = omega arith
 loop-again : tie.Need-loop-again Inv-loop μ-loop
 loop-again c =
     let s = c .before .before .before .before .before .before .before .before .before .before .before in
+    let so = c .before .before .before .before .before .before .before .before .loop .inv in
     let one = c .before .before .before .before .put-strip in
-    (bands-more (s .pre .0) (s .pre .1) (c .before .before .before .before .before .before .before .before .loop .inv .0) (inside (c .before .before .before .before .before .before .before)) (one .ensures) (one .kept .1 .1 .1 .0), c .before .before .before .before .before .before .before .before .loop .inv .1)
+    (bands-more (s .pre .0) (s .pre .1) (so .0) (inside (c .before .before .before .before .before .before .before)) (one .ensures) (one .kept .1 .1 .1 .0), so .1)
 
 same-length : tie.Need-same-length Inv-loop μ-loop
 same-length c = c .before .loop .inv .0 .stripsLong

@@ -25,7 +25,9 @@ same-length-2 : tie.Need-same-length-2
 same-length-2 c = search needs
 
 returns : tie.Need-returns
-returns c = (c .before .before .before .before .before .before .before .best-strips .result, (c .before .before .before .before .before .before .before .best-strips .ensures, sym (ap bandedAs (c .before .steps .given .1))))
+returns c =
+    let called = c .before .before .before .before .before .before .before .best-strips in
+    (called .result, (called .ensures, sym (ap bandedAs (c .before .steps .given .1))))
 
 same-length-3 : tie.Need-same-length-3
 same-length-3 c = search needs
@@ -34,14 +36,16 @@ same-length-4 : tie.Need-same-length-4
 same-length-4 c = search needs
 
 returns-2 : tie.Need-returns-2
-returns-2 c = (
-  c .before .before .before .before .before .before .before .before .best-strips .result,
-  (
-    c .before .before .before .before .before .before .before .before .best-strips .ensures,
-    ap (λ (k : ℕ). record { number = k; place = c .before .before .refusal .given .0 .0 .place; steps = 0 }) (c .number .ensures)
-        ∙ sym (ap bandedAs (c .before .before .refusal .given .1)),
-  ),
-)
+returns-2 c =
+    let called = c .before .before .before .before .before .before .before .before .best-strips in
+    let refusal = c .before .before .refusal .given in (
+      called .result,
+      (
+        called .ensures,
+        ap (λ (k : ℕ). record { number = k; place = refusal .0 .0 .place; steps = 0 }) (c .number .ensures)
+            ∙ sym (ap bandedAs (refusal .1)),
+      ),
+    )
 
 pub register-best-strips-spec : {M : Type 1} → statement M
 register-best-strips-spec =

@@ -19,17 +19,21 @@ number-requires : tie.Need-number-requires
 number-requires c κs = search needs
 
 returns : tie.Need-returns
-returns c = (c .before .before .before .judge-stack .result, (c .before .before .before .judge-stack .ensures, sym (ap stackAs (c .before .points .given .1))))
+returns c =
+    let called = c .before .before .before .judge-stack in
+    (called .result, (called .ensures, sym (ap stackAs (c .before .points .given .1))))
 
 returns-2 : tie.Need-returns-2
-returns-2 c = (
-  c .before .before .before .before .judge-stack .result,
-  (
-    c .before .before .before .before .judge-stack .ensures,
-    ap (λ (k : ℕ). record { number = k; place = c .before .before .refusal .given .0 .0 .place; points = 0; steps = 0 }) (c .number .ensures)
-        ∙ sym (ap stackAs (c .before .before .refusal .given .1)),
-  ),
-)
+returns-2 c =
+    let called = c .before .before .before .before .judge-stack in
+    let refusal = c .before .before .refusal .given in (
+      called .result,
+      (
+        called .ensures,
+        ap (λ (k : ℕ). record { number = k; place = refusal .0 .0 .place; points = 0; steps = 0 }) (c .number .ensures)
+            ∙ sym (ap stackAs (refusal .1)),
+      ),
+    )
 
 pub register-judge-stack-spec : {M : Type 1} → statement M
 register-judge-stack-spec =

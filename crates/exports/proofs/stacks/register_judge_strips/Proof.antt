@@ -19,17 +19,21 @@ number-requires : tie.Need-number-requires
 number-requires c κs = search needs
 
 returns : tie.Need-returns
-returns c = (c .before .before .judge-strips .result, (c .before .before .judge-strips .ensures, sym (ap stripsAs (c .enum-told .given .1))))
+returns c =
+    let called = c .before .before .judge-strips in
+    (called .result, (called .ensures, sym (ap stripsAs (c .enum-told .given .1))))
 
 returns-2 : tie.Need-returns-2
-returns-2 c = (
-  c .before .before .before .before .judge-strips .result,
-  (
-    c .before .before .before .before .judge-strips .ensures,
-    ap (λ (k : ℕ). record { number = k; place = c .before .before .refusal .given .0 .0 .place }) (c .number .ensures)
-        ∙ sym (ap stripsAs (c .before .before .refusal .given .1)),
-  ),
-)
+returns-2 c =
+    let called = c .before .before .before .before .judge-strips in
+    let refusal = c .before .before .refusal .given in (
+      called .result,
+      (
+        called .ensures,
+        ap (λ (k : ℕ). record { number = k; place = refusal .0 .0 .place }) (c .number .ensures)
+            ∙ sym (ap stripsAs (refusal .1)),
+      ),
+    )
 
 pub register-judge-strips-spec : {M : Type 1} → statement M
 register-judge-strips-spec =

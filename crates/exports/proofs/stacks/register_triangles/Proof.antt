@@ -26,28 +26,31 @@ same-length : tie.Need-same-length
 same-length c = search needs
 
 returns : tie.Need-returns
-returns c = (
-  c .before .before .before .before .before .triangles .result,
-  (
-    c .before .before .before .before .before .triangles .ensures,
-    ap (λ (z : ℤ). meshedAs (Closed (c .before .triangles2 .given .0 .0) z))
-        (read-back w64 (c .before .triangles2 .given .0 .1 .0) (c .known-told .given .1 .0 .1))
-        ∙ sym (ap meshedAs (c .before .triangles2 .given .1)),
-  ),
-)
+returns c =
+    let called = c .before .before .before .before .before .triangles in
+    let found = c .before .triangles2 .given in (
+      called .result,
+      (
+        called .ensures,
+        ap (λ (z : ℤ). meshedAs (Closed (found .0 .0) z))
+            (read-back w64 (found .0 .1 .0) (c .known-told .given .1 .0 .1)) ∙ sym (ap meshedAs (found .1)),
+      ),
+    )
 
 same-length-2 : tie.Need-same-length-2
 same-length-2 c = search needs
 
 returns-2 : tie.Need-returns-2
-returns-2 c = (
-  c .before .before .before .before .before .before .triangles .result,
-  (
-    c .before .before .before .before .before .before .triangles .ensures,
-    ap (λ (k : ℕ). record { number = k; place = c .before .before .refusal .given .0 .0 .place; triangles = 0; six = pos 0 }) (c .number .ensures)
-        ∙ sym (ap meshedAs (c .before .before .refusal .given .1)),
-  ),
-)
+returns-2 c =
+    let called = c .before .before .before .before .before .before .triangles in
+    let refusal = c .before .before .refusal .given in (
+      called .result,
+      (
+        called .ensures,
+        ap (λ (k : ℕ). record { number = k; place = refusal .0 .0 .place; triangles = 0; six = pos 0 }) (c .number .ensures)
+            ∙ sym (ap meshedAs (refusal .1)),
+      ),
+    )
 
 pub register-triangles-spec : {M : Type 1} → statement M
 register-triangles-spec =

@@ -24,17 +24,21 @@ refused-requires : tie.Need-refused-requires
 refused-requires c κs = search needs
 
 returns : tie.Need-returns
-returns c = (
-  c .before .before .before .before .volume .result,
-  (
-    c .before .before .before .before .volume .ensures,
-    c .found .ensures ∙ ap foundAs (read-back w64 (c .before .before .six .given .0 .0) (c .before .known-told .given .0 .1))
-        ∙ sym (ap volumedAs (c .before .before .six .given .1)),
-  ),
-)
+returns c =
+    let called = c .before .before .before .before .volume in
+    let six = c .before .before .six .given in (
+      called .result,
+      (
+        called .ensures,
+        c .found .ensures ∙ ap foundAs (read-back w64 (six .0 .0) (c .before .known-told .given .0 .1))
+            ∙ sym (ap volumedAs (six .1)),
+      ),
+    )
 
 returns-2 : tie.Need-returns-2
-returns-2 c = (c .before .before .before .before .volume .result, (c .before .before .before .before .volume .ensures, c .refused .ensures ∙ sym (ap volumedAs (c .before .before .refusal .given .1))))
+returns-2 c =
+    let called = c .before .before .before .before .volume in
+    (called .result, (called .ensures, c .refused .ensures ∙ sym (ap volumedAs (c .before .before .refusal .given .1))))
 
 pub register-volume-spec : {M : Type 1} → statement M
 register-volume-spec =

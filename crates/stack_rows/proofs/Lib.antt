@@ -1,0 +1,2 @@
+-- The laws behind `kept`.
+mod KeptLaws

@@ -1,0 +1,2 @@
+-- What `kept` means.
+pub mod Kept
