@@ -35,36 +35,3 @@ part-long l = padded-long (take 508 l) (simp length-take (omega arith))
 pub part-at : (l : List ℕ) (k : ℕ) → k < 508 → getD (padded (take 508 l)) k 0 ≡ getD l k 0
 unfolding padded
 part-at l k h = zeros-behind (take 508 l) (508 - length (take 508 l)) k ∙ getD-take 508 l k 0 h
-
--- ---- the copying loop
-
--- k bytes of p are copied
-pub record CopySo (p : List ℕ) (k : ℕ) (old new : List ℕ) : Type 0 where
-  pub inside : k ≤ 508
-  pub room : 508 ≤ length old
-  pub whole : length p ≡ 508
-  pub long : length new ≡ length old
-  pub copied : new ≡ take k p ++ drop k old
-
-pub copy-begun : (p old : List ℕ) → 508 ≤ length old → length p ≡ 508 → CopySo p 0 old old
-copy-begun p old r h = record { inside = omega arith; room = r; whole = h; long = refl; copied = refl }
-
-module _ {p old new : List ℕ} {k : ℕ} (s : CopySo p k old new) where
-  pub copy-more : (x : ℕ) → k < 508 → x ≡ getD p k 0 → CopySo p (k + 1) old (set new k x)
-  copy-more x h e = rw (add-one k) (record {
-    inside = omega arith;
-    room = s .room;
-    whole = s .whole;
-    long = length-set new k x ∙ s .long;
-    copied =
-        ap (λ (l : List ℕ). set l k x) (s .copied ∙ ap (λ (l : List ℕ). take k p ++ l) (drop-cons old k 0 (omega arith)))
-        ∙ set-at (take k p) (getD old k 0) (drop (suc k) old) x k (length-take-le k p (omega arith))
-        ∙ sym (append-snoc (take k p) x (drop (suc k) old))
-        ∙ ap (λ (l : List ℕ). l ++ drop (suc k) old)
-        (ap (λ (y : ℕ). take k p ++ (y ∷ [])) e ∙ sym (take-suc p k 0 (omega (arith, s .whole))));
-  })
-
-  pub copy-done : 508 ≤ k → Filled p old new
-  copy-done h =
-      let e : k ≡ length p = omega (arith, s .inside, s .whole) in
-      record { filled = s .copied ∙ ap₂ _++_ (take-all k p (omega arith)) (ap (λ (n : ℕ). drop n old) e) }
