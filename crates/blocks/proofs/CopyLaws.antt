@@ -1,6 +1,5 @@
 -- A block's contents copied: the list with zeros behind it has at each place what the list has, which is 0 past its end; so 508
--- bytes that are read one by one are the padded part. A writer that is lent the part behind what is written writes at the front of
--- the whole. Assumes nothing.
+-- bytes that are read one by one are the padded part. Assumes nothing.
 use mathlib.Core.Path.{_≡_, refl, sym, ap, ap₂, _∙_}
 use mathlib.Core.List.{List, [], _∷_, _++_, append-assoc}
 use Prim.Native.Nat.{ℕ, zero, suc, _+_, _-_, _≤_, _<_}
@@ -11,7 +10,7 @@ use lib.Seq.{take-all, take-at, drop-at, drop-drop, drop-cons, set-at, append-sn
 use borrow.Rule.Slice.PartMut.{putMid, same-len-mid}
 use Rattle.whole.proofs.Parts.{part-lent, part-back}
 use Rattle.blocks.specs.Blocks.{padded}
-use Rattle.blocks.specs.Writing.{Filled}
+use Rattle.whole.specs.Filled.{Filled}
 
 -- ---- zeros behind a list
 
@@ -36,63 +35,3 @@ part-long l = padded-long (take 508 l) (simp length-take (omega arith))
 pub part-at : (l : List ℕ) (k : ℕ) → k < 508 → getD (padded (take 508 l)) k 0 ≡ getD l k 0
 unfolding padded
 part-at l k h = zeros-behind (take 508 l) (508 - length (take 508 l)) k ∙ getD-take 508 l k 0 h
-
--- ---- the copying loop
-
--- k bytes of p are copied
-pub record CopySo (p : List ℕ) (k : ℕ) (old new : List ℕ) : Type 0 where
-  pub inside : k ≤ 508
-  pub room : 508 ≤ length old
-  pub whole : length p ≡ 508
-  pub long : length new ≡ length old
-  pub copied : new ≡ take k p ++ drop k old
-
-pub copy-begun : (p old : List ℕ) → 508 ≤ length old → length p ≡ 508 → CopySo p 0 old old
-copy-begun p old r h = record { inside = omega arith; room = r; whole = h; long = refl; copied = refl }
-
-module _ {p old new : List ℕ} {k : ℕ} (s : CopySo p k old new) where
-  pub copy-more : (x : ℕ) → k < 508 → x ≡ getD p k 0 → CopySo p (k + 1) old (set new k x)
-  copy-more x h e = rw (add-one k) (record {
-    inside = omega arith;
-    room = s .room;
-    whole = s .whole;
-    long = length-set new k x ∙ s .long;
-    copied =
-        ap (λ (l : List ℕ). set l k x) (s .copied ∙ ap (λ (l : List ℕ). take k p ++ l) (drop-cons old k 0 (omega arith)))
-        ∙ set-at (take k p) (getD old k 0) (drop (suc k) old) x k (length-take-le k p (omega arith))
-        ∙ sym (append-snoc (take k p) x (drop (suc k) old))
-        ∙ ap (λ (l : List ℕ). l ++ drop (suc k) old)
-        (ap (λ (y : ℕ). take k p ++ (y ∷ [])) e ∙ sym (take-suc p k 0 (omega (arith, s .whole))));
-  })
-
-  pub copy-done : 508 ≤ k → Filled p old new
-  copy-done h =
-      let e : k ≡ length p = omega (arith, s .inside, s .whole) in
-      record { filled = s .copied ∙ ap₂ _++_ (take-all k p (omega arith)) (ap (λ (n : ℕ). drop n old) e) }
-
--- ---- writers one after the other
-
--- the part from n on, lent, and the whole with p in its place
-abbrev pub behind : ℕ → List ℕ → List ℕ
-behind n l = take (length l - n) (drop n l)
-
-abbrev pub back : ℕ → List ℕ → List ℕ → List ℕ
-back n l p = putMid n (length l - n) l p
-
-pub filled-more : {us vs old l p : List ℕ} (n : ℕ) → Filled us old l → length us ≡ n → Filled vs (behind n l) p
-    → Filled (us ++ vs) old (back n l p)
-filled-more {us} {vs} {old} {l} {p} n f e g =
-    let front : take n l ≡ us = ap (take n) (f .filled) ∙ take-at us (drop (length us) old) n e in
-    let rest : drop n l ≡ drop n old = ap (drop n) (f .filled) ∙ drop-at us (drop (length us) old) n e ∙ ap (λ (k : ℕ). drop k old) e in
-    let all : n + length vs ≡ length (us ++ vs) = simp length-append (omega arith) in
-    record {
-      filled =
-          part-back n l p
-          ∙ ap₂ _++_ front (g .filled ∙ ap (λ (r : List ℕ). vs ++ drop (length vs) r) (part-lent n l ∙ rest))
-          ∙ sym (append-assoc us vs (drop (length vs) (drop n old)))
-          ∙ ap (λ (r : List ℕ). us ++ vs ++ r) (drop-drop (length vs) n old ∙ ap (λ (k : ℕ). drop k old) all);
-    }
-
--- the lengths stay
-pub back-long : (n : ℕ) (l p : List ℕ) → length p ≡ length (behind n l) → length (back n l p) ≡ length l
-back-long n l p e = same-len-mid n (length l - n) l p e

@@ -14,8 +14,9 @@ use borrow.Author.Tests.{ltb-true, ltb-false}
 use Rattle.whole.proofs.Parts.{part-back}
 use Rattle.blocks.specs.Blocks.{padded}
 use Rattle.blocks.specs.Opened.{placeOf, Opened}
-use Rattle.blocks.specs.Writing.{Filled}
-use Rattle.blocks.proofs.CopyLaws.{part-long, part-at, behind, back, back-long}
+use Rattle.whole.specs.Filled.{Filled}
+use Rattle.blocks.proofs.CopyLaws.{part-long, part-at}
+use Rattle.whole.proofs.Filling.{behind, back, back-long}
 
 pub less-or-not : (a b : ℕ) → (a < b) ⊎ (b ≤ a)
 less-or-not a b = go (ltb a b) refl

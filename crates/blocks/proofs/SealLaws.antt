@@ -10,8 +10,9 @@ use Rattle.blocks.specs.Blocks.{checkOf, two, tailOf, padded, blockOf, s
 use Rattle.blocks.specs.declared.Sealing.the-variants as sealing-is
 use Rattle.blocks.specs.Faults.{SealAnswer}
 use Rattle.blocks.specs.Faults as answers
-use Rattle.blocks.specs.Writing.{Filled}
-use Rattle.blocks.proofs.CopyLaws.{part-long, behind, back, back-long, filled-more}
+use Rattle.whole.specs.Filled.{Filled}
+use Rattle.blocks.proofs.CopyLaws.{part-long}
+use Rattle.whole.proofs.Filling.{behind, back, back-long, filled-more}
 
 -- ---- one block
 

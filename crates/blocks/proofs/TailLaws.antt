@@ -12,7 +12,7 @@ use Rattle.whole.specs.Tells.{Tells}
 use Rattle.whole.proofs.Telling.{tells-same, tells-eqb, tells-and, tells-not}
 use Rattle.blocks.specs.Blocks.{checkOf, two, tailOf, blockAt, contentsAt}
 use Rattle.blocks.specs.Faults.{CheckFault}
-use Rattle.blocks.specs.Writing.{Filled}
+use Rattle.whole.specs.Filled.{Filled}
 
 -- ---- parts of a list
 

@@ -2,4 +2,3 @@
 pub mod Blocks
 pub mod Faults
 pub mod Opened
-pub mod Writing

@@ -3,7 +3,7 @@ ghost use mathlib.Core.Path.{_≡_};
 ghost use Prim.Native.Nat.{_≤_};
 ghost use lib.ListN.{length, getD, take, drop};
 ghost use Rattle.blocks.specs.Blocks.{padded};
-ghost use Rattle.blocks.specs.Writing.{Filled};
+ghost use Rattle.whole.specs.Filled.{Filled};
 
 // Byte `k`, and 0 past the end.
 fn byte_at(list: &[u8], k: usize) -> u8

@@ -4,7 +4,7 @@ ghost use mathlib.Core.List.{[], _∷_};
 ghost use Prim.Native.Nat.{_*_, _≤_, _<_};
 ghost use lib.ListN.{length, take, drop};
 ghost use Rattle.blocks.specs.Blocks.{blockOf, sealed};
-ghost use Rattle.blocks.specs.Writing.{Filled};
+ghost use Rattle.whole.specs.Filled.{Filled};
 use crate::check::check;
 use crate::copying::copy;
 

@@ -9,3 +9,4 @@ pub mod Halves
 pub mod Parts
 pub mod Telling
 pub mod Stages
+pub mod Filling

@@ -3,3 +3,4 @@ pub mod Sum
 pub mod Tests
 pub mod Lowest
 pub mod Tells
+pub mod Filled

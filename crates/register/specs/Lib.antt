@@ -1,0 +1,5 @@
+-- The register file: what its contents hold, and what writing and reading answer.
+pub mod Contents
+pub mod Stored
+pub mod Writing
+pub mod Reading
