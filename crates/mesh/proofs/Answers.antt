@@ -20,7 +20,7 @@ use Rattle.stack.specs.Faults.{AcceptedStack}
 use Rattle.stack.specs.Strips.{StripsRight, StripsJudged, whole as right}
 use Rattle.stack.specs.Gathered.{Gathers}
 use Rattle.stack.specs.Laid.{laid}
-use Rattle.stack.proofs.Exact.{refused-once, refused-not-accepted, strips-judged-unique}
+use Rattle.stack.proofs.Exact.{refused-once, refused-not-accepted, strips-refused-once, strips-refused-not-right}
 use Rattle.stack.proofs.Laying.{laid-gathers}
 use Rattle.stack.proofs.StackLaws.{accepted-count}
 use Rattle.mesh.specs.declared.Volumed.{Volumed}
@@ -101,19 +101,6 @@ closed-is-true (whole a _ r) = record {
 
 -- ---- two outcomes that the contracts allow for one input coincide
 
-module _ {es : List Layer} {l : List ℕ} where
-  strips-once : {r s : Refusal} → StripsJudged es l (strips-are.Refused r) → StripsJudged es l (strips-are.Refused s) → r ≡ s
-  strips-once p q = same (strips-judged-unique p q)
-    where
-      same : {r s : Refusal} → strips-are.Refused r ≡ strips-are.Refused s → r ≡ s
-      same e = cc
-
-  no-strips : {r : Refusal} → StripsJudged es l (strips-are.Refused r) → StripsRight es l → ⊥
-  no-strips p s = differ (strips-judged-unique p (right s))
-    where
-      differ : {r : Refusal} → strips-are.Refused r ≡ strips-are.Whole → ⊥
-      differ e = let z : _≡_ {A = ℕ} 0 1 = cc in omega arith
-
 short-long : {m n : ℕ} → m < n → n ≤ m → ⊥
 short-long h g = omega arith
 
@@ -123,10 +110,10 @@ module _ {es : List Layer} {c : List ℤ} {l : List ℕ} where
   measured-once (stack p) (strips a _) = absurd (refused-not-accepted p a)
   measured-once (stack p) (six a _) = absurd (refused-not-accepted p a)
   measured-once (strips a _) (stack q) = absurd (refused-not-accepted q a)
-  measured-once (strips _ p) (strips _ q) = ap volume-is.Refused (strips-once p q)
-  measured-once (strips _ p) (six _ s) = absurd (no-strips p s)
+  measured-once (strips _ p) (strips _ q) = ap volume-is.Refused (strips-refused-once p q)
+  measured-once (strips _ p) (six _ s) = absurd (strips-refused-not-right p s)
   measured-once (six a _) (stack q) = absurd (refused-not-accepted q a)
-  measured-once (six _ s) (strips _ q) = absurd (no-strips q s)
+  measured-once (six _ s) (strips _ q) = absurd (strips-refused-not-right q s)
   measured-once (six _ _) (six _ _) = refl
 
   triangled-once : {out new old : List ℕ} {r s : Meshed} → Triangled es c l out new r → Triangled es c l out old s → (new ≡ old) × (r ≡ s)
@@ -140,11 +127,11 @@ module _ {es : List Layer} {c : List ℤ} {l : List ℕ} where
   triangled-once (room _ h) (whole _ g _) = absurd (short-long h g)
   triangled-once (strips a _ _) (stack q) = absurd (refused-not-accepted q a)
   triangled-once (strips _ g _) (room _ h) = absurd (short-long h g)
-  triangled-once (strips _ _ p) (strips _ _ q) = (refl, ap mesh-is.Refused (strips-once p q))
-  triangled-once (strips _ _ p) (whole _ _ s) = absurd (no-strips p s)
+  triangled-once (strips _ _ p) (strips _ _ q) = (refl, ap mesh-is.Refused (strips-refused-once p q))
+  triangled-once (strips _ _ p) (whole _ _ s) = absurd (strips-refused-not-right p s)
   triangled-once (whole a _ _) (stack q) = absurd (refused-not-accepted q a)
   triangled-once (whole _ g _) (room _ h) = absurd (short-long h g)
-  triangled-once (whole _ _ s) (strips _ _ q) = absurd (no-strips q s)
+  triangled-once (whole _ _ s) (strips _ _ q) = absurd (strips-refused-not-right q s)
   triangled-once (whole _ _ _) (whole _ _ _) = (refl, refl)
 
 -- `volume` leaves one answer for each input: every Stack gathers some entries.

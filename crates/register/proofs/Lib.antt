@@ -1,3 +1,4 @@
--- The register file. PutLaws: what the writers put down.
-pub mod PutLaws
-pub mod WriteLaws
+-- The theorems on the register file: one outcome for each input (WriteExact). The rest are the laws behind them.
+pub mod WriteExact
+mod PutLaws
+mod WriteLaws

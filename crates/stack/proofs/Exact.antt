@@ -175,6 +175,19 @@ module _ {es : List Layer} {l : List ℕ} where
       of : StripsJudged es l strips-are.Whole → StripsRight es l
       of (whole s) = s
 
+  -- for callers: a refusal of the strips is one, and rules out that they are right
+  pub strips-refused-once : {r s : Refusal} → StripsJudged es l (strips-are.Refused r) → StripsJudged es l (strips-are.Refused s) → r ≡ s
+  strips-refused-once p q = same (strips-judged-unique p q)
+    where
+      same : {r s : Refusal} → strips-are.Refused r ≡ strips-are.Refused s → r ≡ s
+      same e = cc
+
+  pub strips-refused-not-right : {r : Refusal} → StripsJudged es l (strips-are.Refused r) → StripsRight es l → ⊥
+  strips-refused-not-right p s = differ (strips-judged-unique p (whole s))
+    where
+      differ : {r : Refusal} → strips-are.Refused r ≡ strips-are.Whole → ⊥
+      differ e = let z : _≡_ {A = ℕ} 0 1 = cc in omega arith
+
 -- ---- the contracts leave one answer: every Stack gathers some entries
 
 pub judge-stack-unique : (st : Stack) (c : List ℤ) {r s : StackJudgement} → ((es : List Layer) → Gathers st es → StackJudged es c r)
