@@ -1,0 +1,205 @@
+-- 01: "Register files round-trip byte for byte, both ways", over the contracts of `write` and `read`.
+--
+-- What is written for an accepted stack with its strips is a sound file whose contents hold that stack and those strips, so reading
+-- answers them (`written-is-read`). What is read with success is the file that is written for what was read (`read-is-written`). So
+-- a file is accepted exactly when it is what `write` makes of some accepted stack with strips (`accepted-exactly`). Assumes nothing.
+use mathlib.Core.Path.{_≡_, refl, sym, ap, ap₂, _∙_, subst}
+use mathlib.Core.Bool.{Bool, true, false}
+use mathlib.Core.Logic.{_↔_}
+use mathlib.Core.List.{List, [], _∷_, _++_, map}
+use Prim.Native.Nat.{ℕ, zero, suc, _+_, _*_, _-_, _/_, _%_, _≤_, _<_}
+use native.Mathlib.Omega.{arith}
+use lib.Dec.{ltb}
+use lib.IntN.{ℤ, pos}
+use lib.ListN.{length, getD, take, drop, replicate, length-append, length-map}
+use lib.Seq.{getD-take, getD-drop}
+use borrow.Author.Tests.{ltb-true, ltb-false}
+use Rattle.whole.specs.Between.{Within}
+use Rattle.whole.proofs.Bounds.{between-wider}
+use Rattle.stack.specs.declared.Layer.{Layer}
+use Rattle.stack.specs.Entries.{entry, traceOf, stop, start, steps}
+use Rattle.stack.specs.Faults.{AcceptedStack}
+use Rattle.stack.specs.Strips.{StripsRight}
+use Rattle.stack.proofs.StackLaws.{accepted-first, accepted-end, accepted-inside, accepted-count, accepted-plane}
+use Rattle.blocks.specs.Blocks.{two, blocksFor, fileOf, contentsOf}
+use Rattle.blocks.specs.Faults.{Sound}
+use Rattle.blocks.proofs.RoundTrip.{sealed-is-sound, seal-then-open, open-then-seal-less}
+use Rattle.register.specs.declared.ReadBack.{ReadBack}
+use Rattle.register.specs.declared.ReadBack.the-variants as read-is
+use Rattle.register.specs.Contents.{contents, contentsLong, registerFile}
+use Rattle.register.specs.Stored.{InWord, Stored, layersIn, LayersIn}
+use Rattle.register.specs.Reading.{Lent, lent, EnoughFor, filled, ReadAnswer, whole}
+use Rattle.register.specs.Reading as read
+use Rattle.register.proofs.PutLaws.{contents-long, trace-long}
+use Rattle.register.proofs.WriteLaws.{blocks-some, blocks-few}
+
+-- ---- an accepted stack can be stored
+
+in-word : {z : ℤ} → Within 100000 z → InWord z
+in-word w = between-wider (omega arith) (omega arith) w
+
+module _ {es : List Layer} {c : List ℤ} (a : AcceptedStack es c) where
+  -- a coordinate below where layer k starts is one of the layers below, so it is in range
+  coord-below : (k : ℕ) → k ≤ length es → (i : ℕ) → i < 2 * start es k → Within 100000 (getD c i (pos 0))
+  unfolding start traceOf
+  coord-below zero h i j = absurd (omega arith)
+  coord-below (suc k) h i j = go (coord-below k (omega arith) i) (ltb i (2 * start es k)) refl
+    where
+      here : (n m j : ℕ) → j < n → getD (take n (drop m c)) j (pos 0) ≡ getD c (m + j) (pos 0)
+      here n m j h = getD-take n (drop m c) j (pos 0) h ∙ getD-drop m c j (pos 0)
+
+      inside : (e : Layer) → e ≡ entry es k → 2 * start es k ≤ i → Within 100000 (getD c i (pos 0))
+      inside e f l =
+          let first : e .first ≡ start es k = ap (λ (e : Layer). e .first) f ∙ accepted-first a k h in
+          let stops : stop e ≡ stop (entry es k) = ap stop f in
+          let at : 2 * e .first + (i - 2 * e .first) ≡ i = omega arith in
+          let short : i - 2 * e .first < 2 * e .count = omega arith in
+          let ranged : (j : ℕ) → j < length (traceOf c e) → Within 100000 (getD (traceOf c e) j (pos 0)) =
+          subst (λ (e : Layer). (j : ℕ) → j < length (traceOf c e) → Within 100000 (getD (traceOf c e) j (pos 0))) (sym f) (a .traces k h .inRange) in
+          let long : length (traceOf c e) ≡ 2 * e .count = trace-long c e (omega (arith, accepted-inside a k h)) in
+          subst (Within 100000)
+          (here (2 * e .count) (2 * e .first) (i - 2 * e .first) short ∙ ap (λ (n : ℕ). getD c n (pos 0)) at)
+          (ranged (i - 2 * e .first) (omega arith))
+
+      go : (i < 2 * start es k → Within 100000 (getD c i (pos 0))) → (t : Bool) → ltb i (2 * start es k) ≡ t → Within 100000 (getD c i (pos 0))
+      go f true e = f (ltb-true i (2 * start es k) e)
+      go f false e = inside (entry es k) refl (ltb-false i (2 * start es k) e)
+
+  coord-in : (i : ℕ) → i < length c → Within 100000 (getD c i (pos 0))
+  unfolding start
+  coord-in i h = go (length es) refl
+    where
+      go : (n : ℕ) → n ≡ length es → Within 100000 (getD c i (pos 0))
+      go zero e = absurd (omega (arith, a .layers .two))
+      go (suc k) e = coord-below (suc k) (omega arith) i (omega (arith, accepted-end a k e, a .spanned .even))
+
+  -- how many zeros are behind
+  fill : (n : ℕ) → 508 * blocksFor n - n < 508
+  unfolding blocksFor
+  fill n = omega arith
+
+  module _ {l : List ℕ} (r : StripsRight es l) where
+    long : length (contents es c l) ≡ contentsLong es c
+    long = contents-long l (a .spanned) (omega (arith, a .layers .two)) (r .long)
+
+    abbrev pub blocksIn : ℕ
+    blocksIn = blocksFor (length (contents es c l))
+
+    some : 1 ≤ blocksIn
+    some = subst (λ (k : ℕ). 1 ≤ blocksFor k) (sym long) (blocks-some a)
+
+    few : blocksIn ≤ 98
+    few = subst (λ (k : ℕ). blocksFor k ≤ 98) (sym long) (blocks-few a)
+
+    -- the file that is written is sound
+    pub file-sound : Sound (registerFile es c l) blocksIn
+    unfolding registerFile
+    file-sound = sealed-is-sound (contents es c l) some few
+
+    -- and holds the stack with its strips
+    pub file-holds : Stored (contentsOf blocksIn (registerFile es c l)) es c l
+    unfolding registerFile
+    file-holds = record {
+      spanned = a .spanned;
+      long = r .long;
+      counts = λ i h. omega (arith, accepted-count a i h .many);
+      planes = λ i h. in-word (accepted-plane a i h);
+      coords = λ i h. in-word (coord-in i h);
+      filler = 508 * blocksIn - length (contents es c l);
+      short = fill (length (contents es c l));
+      here = seal-then-open (contents es c l);
+    }
+
+    -- round trip one: what is written and read comes back, every number
+    pub written-is-read : {x : Lent} → EnoughFor es c l x
+        → ReadAnswer (registerFile es c l) x (filled es c l x) (read-is.Whole (length es) (length c / 2) (length l))
+    written-is-read e = whole file-sound file-holds a e r
+
+-- ---- what was read
+
+-- an accepted stack with its strips, whose file this is
+pub record WrittenFor (f : List ℕ) (x y : Lent) (layers points n : ℕ) : Type 0 where
+  pub es : List Layer
+  pub c : List ℤ
+  pub l : List ℕ
+  pub stack : AcceptedStack es c
+  pub strips : StripsRight es l
+  pub fronts : y ≡ filled es c l x
+  pub layersIs : layers ≡ length es
+  pub pointsIs : points ≡ length c / 2
+  pub stepsIs : n ≡ length l
+  pub same : registerFile es c l ≡ f
+
+-- round trip two: a file that is read, and written again from what was read, comes back byte for byte
+pub read-is-written : {f : List ℕ} {x y : Lent} {r : ReadBack} {layers points n : ℕ} → ReadAnswer f x y r → r ≡ read-is.Whole layers points n
+    → WrittenFor f x y layers points n
+unfolding registerFile
+read-is-written (read.blocks j) e = absurd (let z : _≡_ {A = ℕ} 0 1 = cc in omega arith)
+read-is-written (read.layers s j) e = absurd (let z : _≡_ {A = ℕ} 0 1 = cc in omega arith)
+read-is-written (read.content s i j) e = absurd (let z : _≡_ {A = ℕ} 0 1 = cc in omega arith)
+read-is-written (read.stack s i t j) e = absurd (let z : _≡_ {A = ℕ} 0 1 = cc in omega arith)
+read-is-written (read.room s t a j) e = absurd (let z : _≡_ {A = ℕ} 0 1 = cc in omega arith)
+read-is-written (read.strips s t a i j) e = absurd (let z : _≡_ {A = ℕ} 0 1 = cc in omega arith)
+read-is-written {layers = layers} {points = points} {n = n} (read.whole {es = es} {c = c} {l = l} s t a i j) e = record {
+  es = es;
+  c = c;
+  l = l;
+  stack = a;
+  strips = j;
+  fronts = refl;
+  layersIs = cc;
+  pointsIs = cc;
+  stepsIs = cc;
+  same = open-then-seal-less s (contents es c l) (t .filler) (t .short) (t .here);
+}
+
+-- ---- which files are accepted
+
+-- the file of some accepted stack with its strips
+pub record IsFile (f : List ℕ) : Type 0 where
+  pub es : List Layer
+  pub c : List ℤ
+  pub l : List ℕ
+  pub stack : AcceptedStack es c
+  pub strips : StripsRight es l
+  pub same : registerFile es c l ≡ f
+
+-- read with success into some lent memory
+pub record IsRead (f : List ℕ) : Type 0 where
+  pub before : Lent
+  pub after : Lent
+  pub layers : ℕ
+  pub points : ℕ
+  pub n : ℕ
+  pub answer : ReadAnswer f before after (read-is.Whole layers points n)
+
+pub accepted-exactly : (f : List ℕ) → IsRead f ↔ IsFile f
+accepted-exactly f = (to, of)
+  where
+    to : IsRead f → IsFile f
+    to r =
+        let w = read-is-written (r .answer) refl in
+        record { es = w .es; c = w .c; l = w .l; stack = w .stack; strips = w .strips; same = w .same }
+
+    of : IsFile f → IsRead f
+    of w = record {
+      before = just;
+      after = filled (w .es) (w .c) (w .l) just;
+      layers = length (w .es);
+      points = length (w .c) / 2;
+      n = length (w .l);
+      answer = subst (λ (g : List ℕ). ReadAnswer g just (filled (w .es) (w .c) (w .l) just) (read-is.Whole (length (w .es)) (length (w .c) / 2) (length (w .l))))
+          (w .same) (written-is-read (w .stack) (w .strips) enough);
+    }
+      where
+        just : Lent
+        just = lent (map (λ (e : Layer). e .plane) (w .es)) (map (λ (e : Layer). e .first) (w .es)) (map (λ (e : Layer). e .count) (w .es)) (w .c) (w .l)
+
+        enough : EnoughFor (w .es) (w .c) (w .l) just
+        enough = record {
+          forPlanes = omega (arith, length-map (w .es) (λ (e : Layer). e .plane));
+          forFirsts = omega (arith, length-map (w .es) (λ (e : Layer). e .first));
+          forCounts = omega (arith, length-map (w .es) (λ (e : Layer). e .count));
+          forCoords = omega arith;
+          forStrips = omega arith;
+        }
