@@ -7,8 +7,8 @@ use Prim.Native.Nat.{ℕ, _+_, _≤_, _<_}
 use native.Mathlib.Decide.{ℕ-discrete}
 use native.Mathlib.Omega.{arith}
 use lib.ListN.{length, getD}
-use Rattle.stack.specs.Tells.{Tells}
-use Rattle.stack.proofs.Telling.{tells-same, tells-false, tells-true, tells-and}
+use Rattle.whole.specs.Tells.{Tells}
+use Rattle.whole.proofs.Telling.{tells-same, tells-false, tells-true, tells-and}
 use Rattle.stack_rows.specs.Kept.{AllAre, Kept}
 
 none : {k from : ℕ} → from ≤ k → k < from → ⊥

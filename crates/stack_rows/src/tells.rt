@@ -1,6 +1,6 @@
 // What is printed of an answer.
 ghost use lib.ListN.{length};
-ghost use Rattle.stack.specs.Tells.{Tells};
+ghost use Rattle.whole.specs.Tells.{Tells};
 ghost use Rattle.stack_rows.specs.Kept.{AllAre, Kept};
 use bands::Banded;
 use fault::Refusal;
