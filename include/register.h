@@ -63,6 +63,12 @@ struct register_mesh_answer {
     int64_t six;      /* six times the volume */
 };
 
+struct register_bytes_answer {
+    uint8_t number;
+    size_t place;
+    size_t bytes; /* how many were written */
+};
+
 /* Coordinates are x then y; a strip is a byte a step, 0 for A and 1 for B. */
 struct register_trace_answer register_judge(const int32_t *coords, size_t coords_len);
 
@@ -98,5 +104,12 @@ struct register_answer register_volume(struct register_stack stack, const int32_
 /* The closed triangle list: three numbers a triangle, of which there are one a step and two fewer than the points of either end layer. */
 struct register_mesh_answer register_triangles(struct register_stack stack, const int32_t *coords, size_t coords_len,
                                                const uint8_t *strips, size_t strips_len, uint32_t *out, size_t out_len);
+
+/* The register file of a stack with its strips: blocks of 512 bytes, 98 at most. */
+struct register_bytes_answer register_write(struct register_stack stack, const int32_t *coords, size_t coords_len, const uint8_t *strips,
+                                            size_t strips_len, uint8_t *out, size_t out_len);
+
+/* What the listing program prints for a text; lend 501,047 bytes. A refusal of the text is itself printed: number is then 0. */
+struct register_bytes_answer register_listing(const uint8_t *text, size_t text_len, uint8_t *out, size_t out_len);
 
 #endif

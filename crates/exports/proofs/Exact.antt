@@ -29,6 +29,13 @@ use Rattle.exports.specs.declared.stacks.StripsAnswer.{StripsAnswer}
 use Rattle.exports.specs.declared.stacks.StepsAnswer.{StepsAnswer}
 use Rattle.exports.specs.declared.stacks.MeshAnswer.{MeshAnswer}
 use Rattle.exports.specs.Shown.{valued, followed, listed}
+use Rattle.register.specs.Writing.{WriteAnswer}
+use Rattle.register.proofs.WriteExact.{write-unique}
+use Rattle.listing.specs.declared.Listed.{Listed}
+use Rattle.listing.specs.Listing.{ListingAnswer}
+use Rattle.listing.proofs.Unique.{answer-unique}
+use Rattle.exports.specs.declared.files.BytesAnswer.{BytesAnswer}
+use Rattle.exports.specs.Files.{writtenAs, listedAs}
 use Rattle.exports.specs.Stacks.{stackAs, stripsAs, bandedAs, volumedAs, meshedAs}
 
 -- what is shown of one answer
@@ -81,3 +88,14 @@ module _ {st : Stack} {c : List ℤ} {l : List ℕ} where
       → Shows st (λ es. BandsAnswer es c l work s w) bandedAs r → Shows st (λ es. BandsAnswer es c l work s′ w′) bandedAs r′
       → Same r r′ s s′ w w′
   register-best-strips-unique {work = work} (x, (p, e)) (y, (q, f)) = same-shown bandedAs (best-strips-unique st c l work p q) e f
+
+-- ---- the register file and the listing
+
+pub register-write-unique : {st : Stack} {c : List ℤ} {l out new old : List ℕ} {r r′ : BytesAnswer} → Shows st (λ es. WriteAnswer es c l out new) writtenAs r
+    → Shows st (λ es. WriteAnswer es c l out old) writtenAs r′ → (new ≡ old) × (r ≡ r′)
+register-write-unique {st} {c} {l} {out} (x, (p, e)) (y, (q, f)) =
+    let same = write-unique st c l out p q in (same .0, e ∙ ap writtenAs (same .1) ∙ sym f)
+
+pub register-listing-unique : {t out new old : List ℕ} {r r′ : BytesAnswer} → ((x : Listed) × (ListingAnswer t out new x × (r ≡ listedAs x)))
+    → ((x : Listed) × (ListingAnswer t out old x × (r′ ≡ listedAs x))) → (new ≡ old) × (r ≡ r′)
+register-listing-unique (x, (p, e)) (y, (q, f)) = let same = answer-unique p q in (same .1, e ∙ ap listedAs (same .0) ∙ sym f)

@@ -1,0 +1,72 @@
+// The entry points for the register file and for the listing.
+ghost use mathlib.Core.Path.{_≡_};
+ghost use mathlib.Core.List.{List};
+ghost use Rattle.stack.specs.declared.Layer.{Layer};
+ghost use Rattle.stack.specs.Gathered.{Gathers};
+ghost use Rattle.register.specs.declared.Written.{Written};
+ghost use Rattle.register.specs.Writing.{WriteAnswer};
+ghost use Rattle.listing.specs.declared.Listed.{Listed};
+ghost use Rattle.listing.specs.Listing.{ListingAnswer};
+ghost use Rattle.exports.specs.Files.{writtenAs, listedAs};
+use fault::number;
+use listing::Listed;
+use register::Written;
+use stack::Stack;
+
+// The number of bytes that were written, or a refusal.
+#[repr(C)]
+pub struct BytesAnswer {
+    pub number: u8,
+    pub place: usize,
+    pub bytes: usize,
+}
+
+// The register file of a stack with its strips, at the front of `out`.
+#[no_mangle]
+pub extern "C" fn register_write(
+    stack: Stack,
+    coords: &[i32],
+    strips: &[u8],
+    out: &mut [u8],
+) -> BytesAnswer
+    ensures { λ r. ⌜ ((x : Written) × (((es : List Layer) → Gathers stack es
+        → WriteAnswer es (now (coords .entry)) (now (strips .entry)) (now (out .entry)) (now (out .exit)) x) × (r ≡ writtenAs x))) ⌝ }
+{
+    match register::write(stack, coords, strips, out) {
+        Written::Bytes(bytes) => BytesAnswer {
+            number: 0,
+            place: 0,
+            bytes,
+        },
+        Written::Refused(refusal) => {
+            let fault = refusal.fault;
+            BytesAnswer {
+                number: number(fault),
+                place: refusal.place,
+                bytes: 0,
+            }
+        }
+    }
+}
+
+// What the listing program prints for a text, at the front of `out`.
+#[no_mangle]
+pub extern "C" fn register_listing(text: &[u8], out: &mut [u8]) -> BytesAnswer
+    ensures { λ r. ⌜ ((x : Listed) × (ListingAnswer (now (text .entry)) (now (out .entry)) (now (out .exit)) x × (r ≡ listedAs x))) ⌝ }
+{
+    match listing::listing(text, out) {
+        Listed::Bytes(bytes) => BytesAnswer {
+            number: 0,
+            place: 0,
+            bytes,
+        },
+        Listed::Refused(refusal) => {
+            let fault = refusal.fault;
+            BytesAnswer {
+                number: number(fault),
+                place: refusal.place,
+                bytes: 0,
+            }
+        }
+    }
+}
