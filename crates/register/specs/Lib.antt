@@ -3,3 +3,4 @@ pub mod Contents
 pub mod Stored
 pub mod Writing
 pub mod Reading
+pub mod Decoding

@@ -1,0 +1,4 @@
+-- The theorems on reading the register file, and the laws behind them.
+mod CodeLaws
+mod LayerLaws
+mod StoredLaws
