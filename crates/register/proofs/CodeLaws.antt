@@ -197,3 +197,22 @@ numbers-at (suc n) k zero h = refl
 numbers-at (suc n) k (suc j) h =
     let next : 4 + 4 * j ≡ 4 * suc j = omega arith in
     numbers-at n (drop 4 k) j (omega arith) ∙ ap number (drop-drop (4 * j) 4 k ∙ ap (λ (i : ℕ). drop i k) next)
+
+-- ---- bytes by their places
+
+pub two-at : (k : List ℕ) (at a b : ℕ) → a ≡ getD k at 0 → b ≡ getD k (at + 1) 0 → a + 256 * b ≡ twoOf (drop at k)
+unfolding twoOf
+two-at k at a b p q =
+    let none : at + 0 ≡ at = omega arith in
+    ap₂ (λ (x y : ℕ). x + 256 * y) (p ∙ sym (getD-drop at k 0 0 ∙ ap (λ (i : ℕ). getD k i 0) none)) (q ∙ sym (getD-drop at k 1 0))
+
+pub four-at : (k : List ℕ) (at a b c d : ℕ) → a ≡ getD k at 0 → b ≡ getD k (at + 1) 0 → c ≡ getD k (at + 2) 0 → d ≡ getD k (at + 3) 0
+    → a + 256 * b + 65536 * c + 16777216 * d ≡ fourOf (drop at k)
+unfolding fourOf
+four-at k at a b c d p q r s =
+    let none : at + 0 ≡ at = omega arith in
+    let low : a ≡ getD (drop at k) 0 0 = p ∙ sym (getD-drop at k 0 0 ∙ ap (λ (i : ℕ). getD k i 0) none) in
+    let next : b ≡ getD (drop at k) 1 0 = q ∙ sym (getD-drop at k 1 0) in
+    let third : c ≡ getD (drop at k) 2 0 = r ∙ sym (getD-drop at k 2 0) in
+    let top : d ≡ getD (drop at k) 3 0 = s ∙ sym (getD-drop at k 3 0) in
+    rw (low, next, third, top)

@@ -160,7 +160,7 @@ pub record Planes (es : List Layer) : Type 0 where
 planes-rest : {e : Layer} {es : List Layer} → Planes (e ∷ es) → Planes es
 planes-rest p = record { each = λ i h. p .each (suc i) (omega arith) }
 
-same-layer : (e : Layer) {z : ℤ} {f n : ℕ} → z ≡ e .plane → f ≡ e .first → n ≡ e .count
+pub same-layer : (e : Layer) {z : ℤ} {f n : ℕ} → z ≡ e .plane → f ≡ e .first → n ≡ e .count
     → _≡_ {A = Layer} (record { plane = z; first = f; count = n }) e
 same-layer e {z} {f} {n} p q r =
     ap (λ (z : ℤ). of z f n) p ∙ ap (λ (f : ℕ). of (e .plane) f n) q ∙ ap (of (e .plane) (e .first)) r

@@ -2,3 +2,4 @@
 mod CodeLaws
 mod LayerLaws
 mod StoredLaws
+mod SignLaws

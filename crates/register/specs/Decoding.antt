@@ -53,6 +53,10 @@ unfoldable pub wide : ℕ → List ℕ → ℕ
 wide zero k = 0
 wide (suc n) k = 6 + 8 * countHere k + wide n (past k)
 
+-- where layer k stands, if f points stand before it
+abbrev pub placeOf : ℕ → ℕ → ℕ
+placeOf k f = 2 + 6 * k + 8 * f
+
 -- the layers, coordinates and steps of contents, and where the steps begin
 unfoldable pub layersOf : List ℕ → List Layer
 layersOf k = layersFrom (layersIn k) 0 (drop 2 k)

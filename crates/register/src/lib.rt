@@ -6,6 +6,8 @@ ghost use Rattle.register.specs.Writing.{WriteAnswer};
 use fault::Refusal;
 use stack::Stack;
 
+mod decoding;
+
 pub enum Written {
     // The number of bytes.
     Bytes(usize),
