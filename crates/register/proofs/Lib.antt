@@ -3,3 +3,4 @@ mod CodeLaws
 mod LayerLaws
 mod StoredLaws
 mod SignLaws
+mod GatherLaws

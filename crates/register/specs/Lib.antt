@@ -4,3 +4,4 @@ pub mod Stored
 pub mod Writing
 pub mod Reading
 pub mod Decoding
+pub mod Gathering
