@@ -4,3 +4,4 @@ mod LayerLaws
 mod StoredLaws
 mod SignLaws
 mod GatherLaws
+mod FrontLaws

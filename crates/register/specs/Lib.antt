@@ -5,3 +5,4 @@ pub mod Writing
 pub mod Reading
 pub mod Decoding
 pub mod Gathering
+pub mod Filling

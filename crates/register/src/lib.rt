@@ -7,6 +7,7 @@ use fault::Refusal;
 use stack::Stack;
 
 mod decoding;
+mod filling;
 mod gathering;
 
 pub enum Written {
