@@ -50,7 +50,7 @@ chain-first : {c : List ℤ} {f : ℕ} {es : List Layer} → Chain c f es → 0 
 chain-first (end h) b = absurd (none-below 0 b)
 chain-first (next e h) b = e
 
-chain-ends : {c : List ℤ} {f : ℕ} {es : List Layer} → Chain c f es → (k : ℕ) → suc k ≡ length es → 2 * stop (entry es k) ≡ length c
+pub chain-ends : {c : List ℤ} {f : ℕ} {es : List Layer} → Chain c f es → (k : ℕ) → suc k ≡ length es → 2 * stop (entry es k) ≡ length c
 chain-ends (end h) k b = absurd (none k b)
   where
     none : (k : ℕ) → suc k ≡ 0 → ⊥

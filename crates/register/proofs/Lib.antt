@@ -5,3 +5,4 @@ mod StoredLaws
 mod SignLaws
 mod GatherLaws
 mod FrontLaws
+mod ExtentLaws

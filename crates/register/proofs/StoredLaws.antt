@@ -14,6 +14,7 @@ use Rattle.blocks.specs.Blocks.{two}
 use Rattle.register.specs.Contents.{contents, layersBytes}
 use Rattle.register.specs.Stored.{InWord, Stored, layersIn, LayersIn, ContentFault}
 use Rattle.register.specs.Decoding.{twoOf, numbers, countHere, layerHere, past, layersFrom, coordsFrom, wide, layersOf, coordsOf, stepsAt, stripsOf, StoredHere}
+use Rattle.register.specs.Answering.{contentsEnd, Ended}
 use Rattle.register.proofs.CodeLaws.{Bytes, Words, bytes-drop, two-read, number-word, two-of-small, two-write, numbers-long, numbers-word}
 use Rattle.register.proofs.LayerLaws.{Chain, chain-spanned, spanned-chain, Planes, ReadBack, layers-read, coords-long, wide-is, layers-long, layers-write, layers-range, coords-word}
 
@@ -95,15 +96,6 @@ held-here {k} {es} {c} {l} some s =
     (subst (λ (b : List ℤ). Stored k es b (stripsOf k)) (sym (f .coords)) (subst (Stored k es c) (sym (f .strips)) s))
 
 -- ---- where the steps end
-
-unfoldable pub contentsEnd : List ℕ → ℕ
-contentsEnd k = stepsAt k + steps (layersOf k)
-
--- what the tests say
-pub record Ended (k : List ℕ) : Type 0 where
-  pub within : contentsEnd k ≤ length k
-  pub needed : length k < contentsEnd k + 508
-  pub zeros : drop (contentsEnd k) k ≡ replicate (length k - contentsEnd k) 0
 
 pub stored-ended : {k : List ℕ} → 0 < layersIn k → StoredHere k → Ended k
 unfolding contentsEnd

@@ -6,3 +6,4 @@ pub mod Reading
 pub mod Decoding
 pub mod Gathering
 pub mod Filling
+pub mod Answering

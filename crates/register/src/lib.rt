@@ -9,6 +9,7 @@ use stack::Stack;
 mod decoding;
 mod filling;
 mod gathering;
+mod judging;
 
 pub enum Written {
     // The number of bytes.
