@@ -6,3 +6,4 @@ mod SignLaws
 mod GatherLaws
 mod FrontLaws
 mod ExtentLaws
+mod AnswerLaws

@@ -10,6 +10,7 @@ mod decoding;
 mod filling;
 mod gathering;
 mod judging;
+mod reading;
 
 pub enum Written {
     // The number of bytes.
