@@ -28,14 +28,18 @@ use Rattle.stack.specs.Laid.{laid}
 use Rattle.stack.specs.Refusals.{stackRefusal, stripsRefusal}
 use Rattle.stack.proofs.Told.{OfStack, OfStrips, stack-refused, stack-fit, strips-refused, strips-right}
 use Rattle.blocks.specs.Blocks.{contentsOf}
+use Rattle.blocks.specs.Faults.{Sound, BlocksJudged}
+use Rattle.blocks.specs.declared.BlocksJudgement.{BlocksJudgement}
+use Rattle.blocks.specs.declared.BlocksJudgement.the-variants as blocks-are
+use Rattle.blocks.proofs.Exact.{sound-exactly}
 use Rattle.register.specs.declared.ReadBack.{ReadBack}
 use Rattle.register.specs.declared.ReadBack.the-variants as read-is
 use Rattle.register.specs.declared.judging.Extent.{Extent}
 use Rattle.register.specs.Stored.{Stored, layersIn, LayersIn, ContentFault}
 use Rattle.register.specs.Decoding.{twoOf, layersFrom, coordsFrom, layersOf, coordsOf, stepsAt, stripsOf, StoredHere}
-use Rattle.register.specs.Reading.{Lent, lent, EnoughFor, filled, ReadAnswer, layers, content, stack, room, strips, whole}
+use Rattle.register.specs.Reading.{Lent, lent, EnoughFor, filled, ReadAnswer, blocks, layers, content, stack, room, strips, whole}
 use Rattle.register.specs.Filling.{Front}
-use Rattle.register.specs.Answering.{contentsEnd, Ended, Layered, Reaches, Ready, ReadFrom}
+use Rattle.register.specs.Answering.{contentsEnd, Ended, Layered, Reaches, Ready, ReadFrom, blocksRefusal}
 use Rattle.stack.specs.Gathered.{Gathers}
 use Rattle.register.proofs.StoredLaws.{layers-in-two, stored-ended}
 use Rattle.register.proofs.ExtentLaws.{layers-of-long, layered-laid, layered-many, steps-at}
@@ -215,3 +219,12 @@ module _ {k : List ℕ} {st : Stack} {e : Extent} (d : Ready k st e) where
       let long : length (coordsOf k) ≡ 2 * e .points = omega (arith, d .reaches .points) in
       ap (take (2 * e .points)) (subst (λ (x : List ℤ). new ≡ x ++ drop (length x) old) (coords-by d) (w .filled))
       ∙ take-at (coordsOf k) (drop (length (coordsOf k)) old) (2 * e .points) long
+
+-- ---- the blocks
+
+module _ {f : List ℕ} {j : BlocksJudgement} (told : BlocksJudged f j) where
+  pub blocks-told : {x : Lent} {q r : Refusal} → j ≡ blocks-are.Refused q → r ≡ blocksRefusal j → ReadAnswer f x x (read-is.Refused r)
+  blocks-told t u = blocks (subst (BlocksJudged f) (t ∙ ap blocks-are.Refused (sym (u ∙ ap blocksRefusal t))) told)
+
+  pub blocks-sound : {n : ℕ} → j ≡ blocks-are.Sound n → Sound f n
+  blocks-sound t = sound-exactly .0 (subst (BlocksJudged f) t told)

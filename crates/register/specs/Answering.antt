@@ -3,11 +3,16 @@ use mathlib.Core.Path.{_≡_}
 use mathlib.Core.List.{List}
 use Prim.Native.Nat.{ℕ, _+_, _*_, _-_, _≤_, _<_}
 use lib.ListN.{length, drop, replicate}
+use Rattle.fault.specs.declared.Refusal.{Refusal}
+use Rattle.fault.specs.declared.Fault.the-variants.{Block}
+use Rattle.trace.specs.Pair.{at}
 use Rattle.stack.specs.declared.Stack.{Stack}
 use Rattle.stack.specs.Entries.{steps}
 use Rattle.stack.specs.Gathered.{Gathers}
 use Rattle.blocks.specs.Blocks.{contentsOf}
 use Rattle.blocks.specs.Faults.{Sound}
+use Rattle.blocks.specs.declared.BlocksJudgement.{BlocksJudgement}
+use Rattle.blocks.specs.declared.BlocksJudgement.the-variants as blocks-are
 use Rattle.register.specs.declared.ReadBack.{ReadBack}
 use Rattle.register.specs.declared.judging.Extent.{Extent}
 use Rattle.register.specs.Stored.{LayersIn}
@@ -46,3 +51,8 @@ pub record Ready (k : List ℕ) (st : Stack) (x : Extent) : Type 0 where
 -- the answer for every sound file with the contents k
 pub record ReadFrom (k : List ℕ) (x x′ : Lent) (r : ReadBack) : Type 0 where
   pub answer : (f : List ℕ) (n : ℕ) → Sound f n → contentsOf n f ≡ k → ReadAnswer f x x′ r
+
+-- The refusal that a judgement of blocks carries. (Sound blocks have none: what stands for them is not asked for.)
+abbrev pub blocksRefusal : BlocksJudgement → Refusal
+blocksRefusal (blocks-are.Refused r) = r
+blocksRefusal (blocks-are.Sound n) = at Block 0

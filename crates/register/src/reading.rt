@@ -6,7 +6,7 @@ ghost use Rattle.trace.specs.Pair.{at};
 ghost use Rattle.stack.specs.Faults.{AcceptedStack};
 ghost use Rattle.register.specs.Decoding.{layersOf, coordsOf, stripsOf};
 ghost use Rattle.register.specs.Reading.{lent, EnoughFor, filled};
-ghost use Rattle.register.specs.Answering.{Ready, ReadFrom};
+ghost use Rattle.register.specs.Answering.{Ready, ReadFrom, blocksRefusal};
 use crate::ReadBack;
 use crate::decoding::two_at;
 use crate::filling::put_coords;
@@ -18,6 +18,7 @@ use crate::gathering::stack_of;
 use crate::judging::Extent;
 use crate::judging::content_right;
 use crate::judging::extent_of;
+use blocks::BlocksJudgement;
 use fault::Fault;
 use fault::Refusal;
 use stack::Stack;
@@ -30,6 +31,19 @@ fn refused(fault: Fault) -> ReadBack
     ensures { λ r. ⌜ r ≡ ReadBack.Refused (at fault 0) ⌝ }
 {
     ReadBack::Refused(Refusal { fault, place: 0 })
+}
+
+// The refusal that a judgement of blocks carries. (Sound blocks have none: what is answered for them is not asked for.)
+pub(crate) fn blocks_refusal(judged: BlocksJudgement) -> Refusal
+    ensures { λ r. ⌜ r ≡ blocksRefusal judged ⌝ }
+{
+    match judged {
+        BlocksJudgement::Refused(refusal) => refusal,
+        BlocksJudgement::Sound(_) => Refusal {
+            fault: Fault::Block,
+            place: 0,
+        },
+    }
 }
 
 // Room for all numbers that the contents of 98 blocks can hold.
