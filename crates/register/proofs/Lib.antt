@@ -1,6 +1,15 @@
--- The theorems on the register file: one outcome for each input (WriteExact). The rest are the laws behind them.
+-- The theorems on the register file: round trips (RoundTrip), what the checks find (Changes), one outcome for each input (WriteExact and
+-- ReadExact). The rest are the laws behind them.
 pub mod RoundTrip
 pub mod Changes
 pub mod WriteExact
 mod PutLaws
 mod WriteLaws
+mod CodeLaws
+mod LayerLaws
+mod StoredLaws
+mod SignLaws
+mod GatherLaws
+mod FrontLaws
+mod ExtentLaws
+mod AnswerLaws

@@ -3,3 +3,7 @@ pub mod Contents
 pub mod Stored
 pub mod Writing
 pub mod Reading
+pub mod Decoding
+pub mod Gathering
+pub mod Filling
+pub mod Answering

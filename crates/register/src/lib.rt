@@ -5,8 +5,12 @@ ghost use lib.ListN.{length};
 ghost use Rattle.trace.specs.Pair.{at};
 ghost use Rattle.stack.specs.declared.Layer.{Layer};
 ghost use Rattle.stack.specs.Gathered.{Gathers};
+ghost use Rattle.register.specs.Reading.{lent, ReadAnswer};
 ghost use Rattle.register.specs.Writing.{WriteAnswer};
 use crate::putting::put_contents;
+use crate::reading::blocks_refusal;
+use crate::reading::read_contents;
+use blocks::BlocksJudgement;
 use blocks::Sealing;
 use blocks::seal;
 use fault::Fault;
@@ -15,7 +19,12 @@ use stack::Stack;
 use stack::StackJudgement;
 use stack::StripsJudgement;
 
+mod decoding;
+mod filling;
+mod gathering;
+mod judging;
 mod putting;
+mod reading;
 
 pub enum Written {
     // The number of bytes.
@@ -73,4 +82,26 @@ fn no_room() -> Written
         fault: Fault::Room,
         place: 0,
     })
+}
+
+// Takes every file and all slices. All blocks are judged before any content is looked at.
+pub fn read(
+    file: &[u8],
+    planes: &mut [i32],
+    firsts: &mut [usize],
+    counts: &mut [usize],
+    coords: &mut [i32],
+    strips: &mut [u8],
+) -> ReadBack
+    ensures { λ r. ⌜ ReadAnswer (now (file .entry))
+        (lent (now (planes .entry)) (now (firsts .entry)) (now (counts .entry)) (now (coords .entry)) (now (strips .entry)))
+        (lent (now (planes .exit)) (now (firsts .exit)) (now (counts .exit)) (now (coords .exit)) (now (strips .exit))) r ⌝ }
+{
+    let judged = blocks::judge_blocks(file);
+    let BlocksJudgement::Sound(number) = judged else {
+        return ReadBack::Refused(blocks_refusal(judged));
+    };
+    let bytes = blocks::contents(file);
+    let end = 508 * number;
+    read_contents(&bytes[..end], planes, firsts, counts, coords, strips)
 }

@@ -1,0 +1,94 @@
+// What was read, at the front of the slices that are lent; the rest of each stays.
+ghost use mathlib.Core.List.{map};
+ghost use Prim.Native.Nat.{_+_, _*_, _≤_};
+ghost use lib.IntN.{ℤ};
+ghost use lib.ListN.{length, drop};
+ghost use Rattle.stack.specs.declared.Layer.{Layer};
+ghost use Rattle.stack.specs.Laid.{laid};
+ghost use Rattle.register.specs.Decoding.{numbers, coordsFrom};
+ghost use Rattle.register.specs.Filling.{Front};
+use crate::decoding::layer_here;
+use crate::decoding::number_at;
+use stack::Stack;
+use stack::layer_at;
+
+// `many` numbers, from `at` on.
+fn put_numbers(contents: &[u8], at: usize, many: usize, out: &mut [i32])
+    requires { ⌜ (at + 4 * many ≤ 16777216) × (many ≤ length (now out)) ⌝ }
+    ensures { λ _. ⌜ Front (numbers many (drop at (now (contents .entry)))) (now (out .entry)) (now (out .exit)) ⌝ }
+{
+    let mut k = 0;
+    while k < many {
+        let number = number_at(contents, at + 4 * k);
+        out[k] = number;
+        k += 1;
+    }
+}
+
+// The coordinates of all layers, each layer's behind those of the layer before.
+pub(crate) fn put_coords(contents: &[u8], layers: usize, out: &mut [i32])
+    requires { ⌜ (layers ≤ 20) × (length (coordsFrom layers (drop 2 (now contents))) ≤ length (now out)) ⌝ }
+    ensures { λ _. ⌜ Front (coordsFrom layers (drop 2 (now (contents .entry)))) (now (out .entry)) (now (out .exit)) ⌝ }
+{
+    let mut first = 0;
+    let mut k = 0;
+    while k < layers {
+        let layer = layer_here(contents, k, first);
+        let at = 2 + 6 * k + 8 * first;
+        let to = 2 * first;
+        put_numbers(contents, at + 6, 2 * layer.count, &mut out[to..]);
+        first += layer.count;
+        k += 1;
+    }
+}
+
+pub(crate) fn put_planes(stack: Stack, out: &mut [i32])
+    requires { ⌜ (stack .layers ≤ 20) × (stack .layers ≤ length (now out)) ⌝ }
+    ensures { λ _. ⌜ Front (map (λ (e : Layer). e .plane) (laid stack)) (now (out .entry)) (now (out .exit)) ⌝ }
+{
+    let layers = stack.layers;
+    let mut k = 0;
+    while k < layers {
+        let layer = layer_at(stack, k);
+        let plane = layer.plane;
+        out[k] = plane;
+        k += 1;
+    }
+}
+
+pub(crate) fn put_firsts(stack: Stack, out: &mut [usize])
+    requires { ⌜ (stack .layers ≤ 20) × (stack .layers ≤ length (now out)) ⌝ }
+    ensures { λ _. ⌜ Front (map (λ (e : Layer). e .first) (laid stack)) (now (out .entry)) (now (out .exit)) ⌝ }
+{
+    let layers = stack.layers;
+    let mut k = 0;
+    while k < layers {
+        let layer = layer_at(stack, k);
+        out[k] = layer.first;
+        k += 1;
+    }
+}
+
+pub(crate) fn put_counts(stack: Stack, out: &mut [usize])
+    requires { ⌜ (stack .layers ≤ 20) × (stack .layers ≤ length (now out)) ⌝ }
+    ensures { λ _. ⌜ Front (map (λ (e : Layer). e .count) (laid stack)) (now (out .entry)) (now (out .exit)) ⌝ }
+{
+    let layers = stack.layers;
+    let mut k = 0;
+    while k < layers {
+        let layer = layer_at(stack, k);
+        out[k] = layer.count;
+        k += 1;
+    }
+}
+
+pub(crate) fn put_strips(strips: &[u8], out: &mut [u8])
+    requires { ⌜ length (now strips) ≤ length (now out) ⌝ }
+    ensures { λ _. ⌜ Front (now (strips .entry)) (now (out .entry)) (now (out .exit)) ⌝ }
+{
+    let mut k = 0;
+    while k < strips.len() {
+        out[k] = strips[k];
+        k += 1;
+    }
+}
