@@ -69,6 +69,14 @@ struct register_bytes_answer {
     size_t bytes; /* how many were written */
 };
 
+struct register_file_answer {
+    uint8_t number;
+    size_t place;
+    size_t layers;
+    size_t points;
+    size_t steps;
+};
+
 /* Coordinates are x then y; a strip is a byte a step, 0 for A and 1 for B. */
 struct register_trace_answer register_judge(const int32_t *coords, size_t coords_len);
 
@@ -108,6 +116,12 @@ struct register_mesh_answer register_triangles(struct register_stack stack, cons
 /* The register file of a stack with its strips: blocks of 512 bytes, 98 at most. */
 struct register_bytes_answer register_write(struct register_stack stack, const int32_t *coords, size_t coords_len, const uint8_t *strips,
                                             size_t strips_len, uint8_t *out, size_t out_len);
+
+/* A register file, read. Of its layers the planes, first points and numbers of points: lend an entry a layer in each of the three; two
+ * numbers a point; a byte a step. 20 layers, 10,000 coordinates and 9,500 steps are always enough. */
+struct register_file_answer register_read(const uint8_t *file, size_t file_len, int32_t *planes, size_t planes_len, size_t *firsts,
+                                          size_t firsts_len, size_t *counts, size_t counts_len, int32_t *coords, size_t coords_len,
+                                          uint8_t *strips, size_t strips_len);
 
 /* What the listing program prints for a text; lend 501,047 bytes. A refusal of the text is itself printed: number is then 0. */
 struct register_bytes_answer register_listing(const uint8_t *text, size_t text_len, uint8_t *out, size_t out_len);

@@ -4,12 +4,15 @@ ghost use mathlib.Core.List.{List};
 ghost use Rattle.stack.specs.declared.Layer.{Layer};
 ghost use Rattle.stack.specs.Gathered.{Gathers};
 ghost use Rattle.register.specs.declared.Written.{Written};
+ghost use Rattle.register.specs.declared.ReadBack.{ReadBack};
 ghost use Rattle.register.specs.Writing.{WriteAnswer};
+ghost use Rattle.register.specs.Reading.{lent, ReadAnswer};
 ghost use Rattle.listing.specs.declared.Listed.{Listed};
 ghost use Rattle.listing.specs.Listing.{ListingAnswer};
-ghost use Rattle.exports.specs.Files.{writtenAs, listedAs};
+ghost use Rattle.exports.specs.Files.{writtenAs, readAs, listedAs};
 use fault::number;
 use listing::Listed;
+use register::ReadBack;
 use register::Written;
 use stack::Stack;
 
@@ -19,6 +22,16 @@ pub struct BytesAnswer {
     pub number: u8,
     pub place: usize,
     pub bytes: usize,
+}
+
+// The numbers of layers, points and steps that were read, or a refusal.
+#[repr(C)]
+pub struct FileAnswer {
+    pub number: u8,
+    pub place: usize,
+    pub layers: usize,
+    pub points: usize,
+    pub steps: usize,
 }
 
 // The register file of a stack with its strips, at the front of `out`.
@@ -44,6 +57,45 @@ pub extern "C" fn register_write(
                 number: number(fault),
                 place: refusal.place,
                 bytes: 0,
+            }
+        }
+    }
+}
+
+// A register file, read: planes, first points and numbers of points of its layers, coordinates and strips at the front of each slice.
+#[no_mangle]
+pub extern "C" fn register_read(
+    file: &[u8],
+    planes: &mut [i32],
+    firsts: &mut [usize],
+    counts: &mut [usize],
+    coords: &mut [i32],
+    strips: &mut [u8],
+) -> FileAnswer
+    ensures { λ r. ⌜ ((x : ReadBack) × (ReadAnswer (now (file .entry))
+        (lent (now (planes .entry)) (now (firsts .entry)) (now (counts .entry)) (now (coords .entry)) (now (strips .entry)))
+        (lent (now (planes .exit)) (now (firsts .exit)) (now (counts .exit)) (now (coords .exit)) (now (strips .exit))) x × (r ≡ readAs x))) ⌝ }
+{
+    match register::read(file, planes, firsts, counts, coords, strips) {
+        ReadBack::Whole {
+            layers,
+            points,
+            steps,
+        } => FileAnswer {
+            number: 0,
+            place: 0,
+            layers,
+            points,
+            steps,
+        },
+        ReadBack::Refused(refusal) => {
+            let fault = refusal.fault;
+            FileAnswer {
+                number: number(fault),
+                place: refusal.place,
+                layers: 0,
+                points: 0,
+                steps: 0,
             }
         }
     }
