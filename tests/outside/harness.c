@@ -1,0 +1,614 @@
+/* Holds the entry points of include/register.h to own.h on random inputs, short and long, right and damaged. Every lent slice stands
+ * between guard bytes, and every byte of it is compared after every call. Prints what was tried; stops at the first difference. */
+#include "own.h"
+#include "register.h"
+#include <stdio.h>
+
+#define GUARD 32
+#define FILL 0xa5
+
+static uint64_t state;
+
+static uint64_t rnd(void) {
+    state ^= state >> 12;
+    state ^= state << 25;
+    state ^= state >> 27;
+    return state * 2685821657736338717ull;
+}
+
+static size_t below(size_t n) { return n ? rnd() % n : 0; }
+
+static unsigned long tried;
+static const char *what = "";
+
+static void differ(const char *why) {
+    printf("DIFFERENT after %lu calls, at %s: %s\n", tried, what, why);
+    exit(1);
+}
+
+#define SAME(x, why)     \
+    do {                 \
+        if (!(x))        \
+            differ(why); \
+    } while (0)
+
+/* counts of answers by number */
+static unsigned long answers[16][101];
+enum { JUDGE, JUDGE_STRIP, BEST, NEXT, LIST, STACK, STRIPS, BANDS, VOLUME, TRIANGLES, WRITE, READ, LISTING };
+static const char *const names[] = {"judge",       "judge_strip", "best",      "next",  "list_best", "judge_stack", "judge_strips",
+                                    "best_strips", "volume",      "triangles", "write", "read",      "listing"};
+
+static void told(int entry, unsigned number) {
+    tried++;
+    what = names[entry];
+    answers[entry][number <= 100 ? number : 0]++;
+}
+
+/* ---- lent memory */
+
+struct slice {
+    uint8_t *all; /* guard, bytes, guard */
+    uint8_t *at;
+    uint8_t *was;
+    size_t bytes;
+};
+
+static void lend(struct slice *s, size_t bytes) {
+    s->bytes = bytes;
+    s->all = malloc(bytes + 2 * GUARD);
+    s->was = malloc(bytes + 1);
+    memset(s->all, FILL, bytes + 2 * GUARD);
+    s->at = s->all + GUARD;
+    for (size_t k = 0; k < bytes; k++)
+        s->at[k] = (uint8_t)rnd();
+    memcpy(s->was, s->at, bytes);
+}
+
+/* from byte `from` on everything is as it was, and so are the guards */
+static void kept(struct slice *s, size_t from, const char *why) {
+    for (size_t k = 0; k < GUARD; k++)
+        if (s->all[k] != FILL || s->all[GUARD + s->bytes + k] != FILL)
+            differ(why);
+    if (from < s->bytes && memcmp(s->at + from, s->was + from, s->bytes - from))
+        differ(why);
+}
+
+static void give_back(struct slice *s) {
+    free(s->all);
+    free(s->was);
+}
+
+static int all_zero(const uint8_t *p, size_t n) {
+    for (size_t k = 0; k < n; k++)
+        if (p[k])
+            return 0;
+    return 1;
+}
+
+/* ---- random traces */
+
+static int32_t turned_cos(size_t k, size_t n, int32_t r) {
+    /* a rough circle of whole numbers: four straight sides, bent */
+    double t = 6.283185307179586 * (double)k / (double)n, x = 1, term = 1;
+    for (int i = 1; i < 14; i++) {
+        term *= -t * t / ((2 * i - 1) * (2 * i));
+        x += term;
+    }
+    return (int32_t)(x * r);
+}
+
+/* a trace of n points; sometimes at fault */
+static size_t make_trace(int32_t *c, size_t n, int spoil) {
+    int kind = (int)below(4);
+    int32_t r = kind == 0 ? 100000 : kind == 1 ? 1000 : 5;
+    if (n <= 6 && kind >= 2) {
+        do
+            for (size_t k = 0; k < 2 * n; k++)
+                c[k] = (int32_t)below(7) - 3;
+        while (!spoil && own_fault(c, 2 * n));
+    } else {
+        for (size_t k = 0; k < n; k++) {
+            c[2 * k] = turned_cos(k, n, r);
+            c[2 * k + 1] = turned_cos((k + n - n / 4) % n, n, r);
+        }
+        if (r == 5)
+            for (size_t k = 0; k < 2 * n; k++)
+                c[k] *= (int32_t)n;
+    }
+    if (spoil && below(3) == 0 && n > 0) {
+        size_t k = below(n);
+        switch (below(5)) {
+        case 0: c[2 * k] = 100001; break;
+        case 1: c[2 * k + 1] = INT32_MIN; break;
+        case 2: c[2 * k] = c[2 * ((k + 1) % n)], c[2 * k + 1] = c[2 * ((k + 1) % n) + 1]; break;
+        case 3:
+            for (size_t i = 0; i < n / 2; i++)
+                for (int v = 0; v < 2; v++) {
+                    int32_t x = c[2 * i + v];
+                    c[2 * i + v] = c[2 * (n - 1 - i) + v], c[2 * (n - 1 - i) + v] = x;
+                }
+            break;
+        default: return 2 * n - 1;
+        }
+    }
+    return 2 * n;
+}
+
+/* ---- a pair */
+
+static struct own_list own;
+static int32_t ca[1200], cb[1200];
+
+static void try_judge(const int32_t *c, size_t len) {
+    struct register_trace_answer r = register_judge(c, len);
+    told(JUDGE, r.number);
+    int f = own_fault(c, len);
+    SAME(r.number == f && r.place == 0, "the fault");
+    SAME(f || (r.area == own_area(c, len / 2) && r.count == len / 2), "area or count");
+}
+
+static void try_judge_strip(size_t la, size_t lb, const uint8_t *s, size_t len) {
+    struct register_answer r = register_judge_strip(ca, la, cb, lb, s, len);
+    told(JUDGE_STRIP, r.number);
+    struct own_answer f = own_pair_fault(ca, la, cb, lb);
+    if (f.number == 0 && !own_is_strip(s, len, la / 2, lb / 2))
+        f.number = 9;
+    SAME(r.number == f.number && r.place == f.place, "the refusal");
+    SAME(f.number || r.value == own_value(ca, la / 2, cb, lb / 2, s), "the value");
+}
+
+/* a next one, from the bytes at the front; answers the number */
+static unsigned try_next(size_t la, size_t lb, struct slice *strip, struct slice *work, int room) {
+    size_t m = la / 2, n = lb / 2;
+    memcpy(strip->was, strip->at, strip->bytes);
+    memcpy(work->was, work->at, work->bytes);
+    struct register_answer r = register_next(ca, la, cb, lb, strip->at, strip->bytes, work->at, work->bytes);
+    told(NEXT, r.number);
+    struct own_answer f = own_pair_fault(ca, la, cb, lb);
+    size_t here = own.count;
+    if (f.number == 0 && !room)
+        f.number = 8;
+    if (f.number == 0 && !own_is_strip(strip->was, m + n, m, n))
+        f.number = 9;
+    if (f.number == 0) {
+        for (here = 0; here < own.count; here++)
+            if (memcmp(own.strips + here * (m + n), strip->was, m + n) == 0)
+                break;
+        f.number = here == own.count ? 10 : here + 1 == own.count ? 100 : 0;
+    }
+    SAME(r.number == f.number && r.place == f.place, "number or place");
+    if (f.number == 0) {
+        SAME(r.value == own.best, "the value");
+        SAME(memcmp(strip->at, own.strips + (here + 1) * (m + n), m + n) == 0, "the next strip");
+    }
+    kept(strip, f.number == 0 ? m + n : 0, "bytes of the strip slice");
+    if (f.number == 0 || f.number == 100)
+        SAME(all_zero(work->at, (m + 1) * (n + 1)), "used work bytes");
+    kept(work, f.number == 0 || f.number == 100 ? (m + 1) * (n + 1) : 0, "bytes of the work slice");
+    return r.number;
+}
+
+static void try_list(size_t la, size_t lb, size_t limit, int whole) {
+    size_t m = la / 2, n = lb / 2;
+    struct slice lines, work;
+    int short_lines = below(9) == 0, short_work = below(9) == 0;
+    lend(&lines, limit * (m + n) + below(5) - (short_lines && limit > 0 && m + n > 0));
+    short_lines = lines.bytes < limit * (m + n);
+    lend(&work, (m + 1) * (n + 1) - short_work + (short_work ? 0 : below(4)));
+    struct register_run_answer r = register_list_best(ca, la, cb, lb, lines.at, lines.bytes, work.at, work.bytes, limit);
+    told(LIST, r.number);
+    struct own_answer f = own_pair_fault(ca, la, cb, lb);
+    if (f.number == 0 && (short_lines || short_work))
+        f.number = 8;
+    SAME(r.number == f.number && r.place == f.place, "number or place");
+    if (f.number) {
+        kept(&lines, 0, "bytes of the lines");
+        kept(&work, 0, "bytes of the work slice");
+    } else {
+        size_t count = own.count < limit ? own.count : limit;
+        SAME(r.value == own.best && r.count == count, "value or count");
+        SAME(!whole || r.more == (own.count > limit), "whether some remain");
+        SAME(memcmp(lines.at, own.strips, count * (m + n)) == 0, "the strips");
+        kept(&lines, count * (m + n), "bytes behind the strips");
+        SAME(all_zero(work.at, (m + 1) * (n + 1)), "used work bytes");
+        kept(&work, (m + 1) * (n + 1), "bytes behind the work");
+    }
+    give_back(&lines);
+    give_back(&work);
+}
+
+static void try_pair(size_t m, size_t n, int spoil) {
+    size_t la = make_trace(ca, m, spoil), lb = make_trace(cb, n, spoil);
+    try_judge(ca, la);
+    try_judge(cb, lb);
+    struct own_answer f = own_pair_fault(ca, la, cb, lb);
+    m = la / 2, n = lb / 2;
+    int small = m + n <= 12;
+    own.count = 0;
+    if (f.number == 0) {
+        if (small)
+            own_best_by_listing(&own, ca, m, cb, n);
+        else
+            own_best_by_table(&own, ca, m, cb, n, 301);
+    }
+    struct slice strip, work;
+    int short_strip = m + n > 0 && below(9) == 0, short_work = below(9) == 0;
+    lend(&strip, m + n - short_strip + (short_strip ? 0 : below(4)));
+    lend(&work, (m + 1) * (n + 1) - short_work + (short_work ? 0 : below(4)));
+    struct register_answer r = register_best(ca, la, cb, lb, strip.at, strip.bytes, work.at, work.bytes);
+    told(BEST, r.number);
+    int room = !short_strip && !short_work;
+    if (f.number == 0 && !room)
+        f.number = 8;
+    SAME(r.number == f.number && r.place == f.place, "number or place");
+    if (f.number == 0) {
+        SAME(r.value == own.best && memcmp(strip.at, own.strips, m + n) == 0, "value or strip");
+        SAME(all_zero(work.at, (m + 1) * (n + 1)), "used work bytes");
+    }
+    kept(&strip, f.number ? 0 : m + n, "bytes of the strip slice");
+    kept(&work, f.number ? 0 : (m + 1) * (n + 1), "bytes of the work slice");
+    if (f.number == 0 && small) {
+        size_t listed = 1;
+        while (listed < 3000 && try_next(la, lb, &strip, &work, 1) == 0)
+            listed++;
+        SAME(listed == own.count || listed == 3000, "the list's length");
+    } else {
+        if (f.number == 0 && own.count > 1)
+            try_next(la, lb, &strip, &work, 1);
+        if (small)
+            try_next(la, lb, &strip, &work, room);
+    }
+    if (f.number == 0 && small)
+        for (int k = 0; k < 3; k++) {
+            /* some strip or none, judged, and asked for its next */
+            for (size_t i = 0; i < m + n; i++)
+                strip.at[i] = i < m ? 0 : 1;
+            for (size_t i = m + n; i-- > 1;) {
+                size_t j = below(i + 1);
+                uint8_t x = strip.at[i];
+                strip.at[i] = strip.at[j], strip.at[j] = x;
+            }
+            if (below(4) == 0)
+                strip.at[below(m + n)] = (uint8_t)below(3);
+            try_judge_strip(la, lb, strip.at, below(6) ? m + n : m + n - 1);
+            try_next(la, lb, &strip, &work, 1);
+        }
+    if (small || f.number)
+        try_list(la, lb, below(12), 1);
+    else
+        try_list(la, lb, below(300), own.count < 301);
+    give_back(&strip);
+    give_back(&work);
+}
+
+/* ---- a stack */
+
+static int32_t cs[12500];
+static struct own_layer es[24];
+static uint8_t ss[20000];
+static uint32_t ts[40000];
+static uint8_t contents[60000], file[60000], sealed[60000];
+
+static struct register_stack by_value(size_t layers) {
+    struct register_stack st;
+    memset(&st, 0, sizeof st);
+    for (size_t k = 0; k < 20 && k < layers; k++) {
+        st.plane[k] = (int32_t)es[k].plane;
+        st.first[k] = es[k].first;
+        st.count[k] = es[k].count;
+    }
+    st.layers = layers;
+    return st;
+}
+
+/* random layers over cs; the number of coordinates */
+static size_t make_stack(size_t layers, size_t most, int spoil) {
+    size_t points = 0;
+    int32_t plane = (int32_t)below(2000) - 1000;
+    for (size_t k = 0; k < layers && k < 20; k++) {
+        size_t n = 3 + below(most - 2);
+        make_trace(cs + 2 * points, n, spoil && below(6) == 0);
+        es[k].plane = plane, es[k].first = points, es[k].count = n;
+        points += n;
+        plane += 1 + (int32_t)below(50);
+    }
+    size_t len = 2 * points;
+    if (spoil && layers > 0 && layers <= 20)
+        switch (below(7)) {
+        case 0: es[below(layers)].plane = below(2) ? 100001 : -100001; break;
+        case 1: es[below(layers)].plane = es[0].plane; break;
+        case 2: es[below(layers)].first += 1 + below(3); break;
+        case 3: es[below(layers)].count = below(2) ? SIZE_MAX : 0; break;
+        case 4: len--; break;
+        default: break;
+        }
+    return len;
+}
+
+static void random_strips(size_t layers) {
+    size_t at = 0;
+    for (size_t k = 0; k + 1 < layers; k++) {
+        size_t m = es[k].count, n = es[k + 1].count;
+        for (size_t i = 0; i < m + n; i++)
+            ss[at + i] = i >= m;
+        for (size_t i = m + n; i-- > 1;) {
+            size_t j = below(i + 1);
+            uint8_t x = ss[at + i];
+            ss[at + i] = ss[at + j], ss[at + j] = x;
+        }
+        at += m + n;
+    }
+}
+
+static void try_bands(struct register_stack st, size_t layers, size_t len, struct own_answer f) {
+    size_t steps = f.number ? 40 : own_steps(es, layers), most = 0;
+    for (size_t k = 0; f.number == 0 && k + 1 < layers; k++)
+        if ((es[k].count + 1) * (es[k + 1].count + 1) > most)
+            most = (es[k].count + 1) * (es[k + 1].count + 1);
+    struct slice strips, work;
+    int short_strips = below(9) == 0, short_work = below(9) == 0;
+    lend(&strips, steps - short_strips);
+    lend(&work, f.number ? 60 : most - short_work);
+    struct register_steps_answer r = register_best_strips(st, cs, len, strips.at, strips.bytes, work.at, work.bytes);
+    told(BANDS, r.number);
+    if (f.number == 0 && (short_strips || short_work))
+        f.number = 8;
+    SAME(r.number == f.number && r.place == f.place, "number or place");
+    if (f.number == 0) {
+        size_t at = 0;
+        SAME(r.steps == steps, "the number of steps");
+        for (size_t k = 0; k + 1 < layers; k++) {
+            own_best_by_table(&own, cs + 2 * es[k].first, es[k].count, cs + 2 * es[k + 1].first, es[k + 1].count, 1);
+            SAME(memcmp(strips.at + at, own.strips, es[k].count + es[k + 1].count) == 0, "a band's strip");
+            at += es[k].count + es[k + 1].count;
+        }
+        SAME(all_zero(work.at, most), "used work bytes");
+    }
+    kept(&strips, f.number ? 0 : steps, "bytes of the strips");
+    kept(&work, f.number ? 0 : most, "bytes of the work slice");
+    give_back(&strips);
+    give_back(&work);
+}
+
+static void try_triangles(struct register_stack st, size_t layers, size_t len, struct own_answer f, size_t steps) {
+    struct own_answer g = f;
+    if (g.number == 0)
+        g = own_strips_fault(es, layers, ss, steps);
+    struct register_answer v = register_volume(st, cs, len, ss, steps);
+    told(VOLUME, v.number);
+    SAME(v.number == g.number && v.place == g.place, "number or place");
+    size_t count = f.number ? 0 : own_steps(es, layers) + es[0].count - 2 + es[layers - 1].count - 2;
+    int short_out = f.number == 0 && below(9) == 0;
+    struct slice out;
+    lend(&out, 4 * (3 * count - short_out + (short_out ? 0 : below(4))));
+    struct register_mesh_answer r = register_triangles(st, cs, len, ss, steps, (uint32_t *)out.at, out.bytes / 4);
+    told(TRIANGLES, r.number);
+    if (f.number == 0 && short_out)
+        g.number = 8, g.place = 0;
+    SAME(r.number == g.number && r.place == g.place, "number or place");
+    if (v.number == 0) {
+        size_t t = own_triangles(es, layers, ss, ts);
+        __int128 six = own_six(es, layers, cs, ts, t);
+        SAME((__int128)v.value == six, "six times the volume");
+        if (g.number == 0)
+            SAME(r.triangles == t && (__int128)r.six == six && memcmp(out.at, ts, 12 * t) == 0, "the closed list");
+    }
+    kept(&out, g.number ? 0 : 12 * count, "numbers of the list");
+    give_back(&out);
+}
+
+static void same_read(const uint8_t *f, size_t len);
+
+static void try_file(struct register_stack st, size_t layers, size_t len, struct own_answer f, size_t steps) {
+    struct own_answer g = f;
+    if (g.number == 0)
+        g = own_strips_fault(es, layers, ss, steps);
+    size_t bytes = f.number ? 0 : 2 + 6 * layers + 4 * len + own_steps(es, layers), blocks = (bytes + 507) / 508;
+    int short_out = f.number == 0 && below(9) == 0;
+    struct slice out;
+    lend(&out, f.number ? below(2000) : 512 * blocks - short_out + (short_out ? 0 : below(700)));
+    struct register_bytes_answer r = register_write(st, cs, len, ss, steps, out.at, out.bytes);
+    told(WRITE, r.number);
+    if (f.number == 0 && short_out)
+        g.number = 8, g.place = 0;
+    SAME(r.number == g.number && r.place == g.place, "number or place");
+    kept(&out, g.number ? 0 : 512 * blocks, "bytes of the file's slice");
+    if (g.number == 0) {
+        struct own_bytes k = {contents, 0}, o = {file, 0};
+        own_contents(&k, es, layers, cs, ss);
+        own_seal(&o, contents, k.len, blocks);
+        SAME(r.bytes == o.len && memcmp(out.at, file, o.len) == 0, "the file");
+        same_read(file, o.len);
+        for (int t = 0; t < 12; t++) {
+            /* damaged: as it is, or with right checks again */
+            size_t n = o.len;
+            memcpy(sealed, file, n);
+            if (t < 5) {
+                size_t i = below(n);
+                sealed[i] = (uint8_t)(sealed[i] + 1 + below(255));
+            } else if (t == 5) {
+                n = below(3) ? n - 1 - below(n - 1) : 0;
+            } else {
+                struct own_bytes again = {sealed, 0};
+                size_t l = k.len;
+                static uint8_t other[60000];
+                memset(other, 0, sizeof other);
+                memcpy(other, contents, l);
+                for (size_t q = 1 + below(2); q-- > 0;) {
+                    size_t i = below(3) ? below(l) : below(60 < l ? 60 : l);
+                    other[i] = below(2) ? (uint8_t)rnd() : (uint8_t)below(3);
+                }
+                if (t == 6 && 508 * blocks > l)
+                    other[l + below(508 * blocks - l)] = 1;
+                size_t b = blocks + (t == 7) + (t == 8 ? 90 : 0);
+                if (t == 9 && blocks > 1)
+                    b--;
+                if (b > 110)
+                    b = 110;
+                own_seal(&again, other, l < 508 * b ? 508 * b : l, b);
+                n = again.len;
+            }
+            same_read(sealed, n);
+        }
+    }
+    give_back(&out);
+}
+
+static void same_read(const uint8_t *f, size_t len) {
+    static struct own_read want;
+    static int32_t wanted[60000];
+    static uint8_t opened[60000];
+    want.c = wanted;
+    own_read(&want, f, len, opened);
+    struct slice lent[5];
+    const size_t width[5] = {4, sizeof(size_t), sizeof(size_t), 4, 1};
+    size_t need[5] = {want.layers, want.layers, want.layers, 2 * want.points, want.steps};
+    int shortened = below(6) == 0 ? (int)below(5) : -1, room = 1;
+    for (int k = 0; k < 5; k++) {
+        size_t n = want.refused.number ? below(30) : need[k] + below(3);
+        if (want.refused.number == 0 && shortened == k && need[k] > 0)
+            n = need[k] - 1, room = 0;
+        lend(&lent[k], n * width[k]);
+    }
+    struct register_file_answer r =
+        register_read(f, len, (int32_t *)lent[0].at, lent[0].bytes / 4, (size_t *)lent[1].at, lent[1].bytes / sizeof(size_t),
+                      (size_t *)lent[2].at, lent[2].bytes / sizeof(size_t), (int32_t *)lent[3].at, lent[3].bytes / 4, lent[4].at,
+                      lent[4].bytes);
+    told(READ, r.number);
+    struct own_answer g = want.refused;
+    if (g.number == 0 && !room)
+        g.number = 8;
+    if (g.number == 0)
+        g = want.strip;
+    SAME(r.number == g.number && r.place == g.place, "number or place");
+    for (int k = 0; k < 5; k++)
+        kept(&lent[k], g.number ? 0 : need[k] * width[k], "what is lent for reading");
+    if (g.number == 0) {
+        SAME(r.layers == want.layers && r.points == want.points && r.steps == want.steps, "the numbers");
+        for (size_t k = 0; k < want.layers; k++)
+            SAME(((int32_t *)lent[0].at)[k] == want.es[k].plane && ((size_t *)lent[1].at)[k] == want.es[k].first &&
+                     ((size_t *)lent[2].at)[k] == want.es[k].count,
+                 "an entry");
+        SAME(memcmp(lent[3].at, wanted, 8 * want.points) == 0 && memcmp(lent[4].at, want.s, want.steps) == 0, "coordinates or steps");
+    }
+    for (int k = 0; k < 5; k++)
+        give_back(&lent[k]);
+}
+
+static void try_stack(size_t most, int spoil) {
+    size_t layers = below(12) == 0 ? below(4) == 0 ? 21 + below(3) : below(2) : 2 + below(below(8) ? 3 : 19);
+    size_t len = make_stack(layers, most, spoil);
+    struct register_stack st = by_value(layers);
+    struct own_answer f = own_stack_fault(es, layers, cs, len);
+    struct register_stack_answer r = register_judge_stack(st, cs, len);
+    told(STACK, r.number);
+    SAME(r.number == f.number && r.place == f.place, "number or place");
+    SAME(f.number || (r.points == len / 2 && r.steps == own_steps(es, layers)), "points or steps");
+    size_t steps = 30;
+    if (f.number == 0) {
+        steps = own_steps(es, layers);
+        random_strips(layers);
+        if (below(5) == 0)
+            ss[below(steps)] = (uint8_t)below(3);
+        if (below(8) == 0)
+            steps--;
+        struct own_answer g = own_strips_fault(es, layers, ss, steps);
+        struct register_strips_answer s = register_judge_strips(st, ss, steps);
+        told(STRIPS, s.number);
+        SAME(s.number == g.number && s.place == g.place, "number or place");
+    }
+    try_bands(st, layers, len, f);
+    try_triangles(st, layers, len, f, steps);
+    try_file(st, layers, len, f, steps);
+}
+
+/* ---- the listing */
+
+static char text[70000], printed[600000];
+
+static size_t put_number(char *p, int64_t v) {
+    size_t n = (size_t)sprintf(p, "%s%s%lld", v < 0 ? "-" : "", below(9) == 0 ? "000" : "", (long long)(v < 0 ? -v : v));
+    for (size_t k = 1 + below(3); k-- > 0;)
+        p[n++] = below(3) ? ' ' : '\n';
+    return n;
+}
+
+static void try_listing(size_t m, size_t n, int spoil) {
+    size_t la = make_trace(ca, m, spoil), lb = make_trace(cb, n, spoil), t = 0;
+    la -= la % 2, lb -= lb % 2;
+    int64_t lower = (int64_t)below(2000) - 1000, upper = lower + (int64_t)below(30) - (spoil ? 3 : -1);
+    if (spoil && below(9) == 0)
+        upper = 100001;
+    t += put_number(text + t, lower);
+    t += put_number(text + t, (int64_t)(la / 2));
+    for (size_t k = 0; k < la; k++)
+        t += put_number(text + t, ca[k]);
+    t += put_number(text + t, upper);
+    t += put_number(text + t, (int64_t)(lb / 2));
+    for (size_t k = 0; k < lb; k++)
+        t += put_number(text + t, cb[k]);
+    int unread = 0;
+    if (spoil && below(4) == 0) {
+        static const char odd[] = "x+.\t\r,";
+        size_t k = below(t);
+        text[k] = odd[below(6)];
+        unread = 1;
+    } else if (spoil && below(6) == 0) {
+        t += put_number(text + t, 7);
+        unread = 1;
+    }
+    size_t w = 0;
+    struct own_answer f = own_pair_fault(ca, la, cb, lb);
+    if (unread)
+        f.number = 13, f.place = 0;
+    else if (f.number == 0 && (upper > 100000 || upper <= lower))
+        f.number = 7, f.place = 1;
+    if (f.number) {
+        w = (size_t)sprintf(printed, "refused %d %zu\n", f.number, f.place);
+    } else {
+        size_t steps = la / 2 + lb / 2;
+        own_best_by_table(&own, ca, la / 2, cb, lb / 2, 1001);
+        int64_t areas = own_area(ca, la / 2) + own_area(cb, lb / 2);
+        w = (size_t)sprintf(printed, "%lld %lld\n", (long long)own.best, (long long)((upper - lower) * (2 * areas + own.best) / 2));
+        for (size_t k = 0; k < own.count && k < 1000; k++) {
+            for (size_t i = 0; i < steps; i++)
+                printed[w++] = own.strips[k * steps + i] ? 'B' : 'A';
+            printed[w++] = '\n';
+        }
+        w += (size_t)sprintf(printed + w, own.count > 1000 ? "more\n" : "end\n");
+    }
+    struct slice out;
+    lend(&out, 501047 + below(3));
+    struct register_bytes_answer r = register_listing((const uint8_t *)text, t, out.at, out.bytes);
+    told(LISTING, r.number);
+    SAME(r.number == 0 && r.bytes == w && memcmp(out.at, printed, w) == 0, "the text");
+    kept(&out, w, "bytes behind the text");
+    give_back(&out);
+}
+
+int main(int argc, char **argv) {
+    state = 88172645463325252ull ^ (argc > 1 ? strtoull(argv[1], 0, 10) * 0x9e3779b97f4a7c15ull : 0);
+    unsigned long pairs = argc > 2 ? strtoul(argv[2], 0, 10) : 100000;
+    own.strips = malloc((size_t)MOST_STRIPS * 520);
+    for (unsigned long k = 0; k < pairs; k++) {
+        int spoil = below(3) == 0;
+        try_pair(3 + below(4) - (spoil && below(9) == 0 ? 1 + below(3) : 0), 3 + below(3), spoil);
+        if (k % 50 == 0)
+            try_pair(3 + below(60), 3 + below(60), spoil);
+        if (k % 2000 == 0)
+            try_pair(249 + below(3), 249 + below(3), spoil);
+        if (k % 10 == 0)
+            try_stack(k % 100 == 0 ? 30 : 6, spoil);
+        if (k % 50 == 0)
+            try_listing(3 + below(k % 500 == 0 ? 40 : 4), 3 + below(4), spoil);
+    }
+    printf("seed %s, %lu pairs, %lu calls, every answer and every lent byte as expected\n", argc > 1 ? argv[1] : "0", pairs, tried);
+    for (int e = 0; e <= LISTING; e++) {
+        printf("%-12s", names[e]);
+        for (int k = 0; k <= 100; k++)
+            if (answers[e][k])
+                printf(" %d:%lu", k, answers[e][k]);
+        printf("\n");
+    }
+    return 0;
+}
