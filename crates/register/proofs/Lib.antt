@@ -1,4 +1,5 @@
 -- The theorems on reading the register file, and the laws behind them.
+pub mod ReadExact
 mod CodeLaws
 mod LayerLaws
 mod StoredLaws

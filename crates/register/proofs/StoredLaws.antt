@@ -46,7 +46,7 @@ pub record Found (k : List ℕ) (es : List Layer) (c : List ℤ) (l : List ℕ) 
   pub whole : stepsAt k + steps es + filler ≡ length k
   pub behind : drop (stepsAt k + steps es) k ≡ replicate filler 0
 
-stored-many : {k : List ℕ} {es : List Layer} {c : List ℤ} {l : List ℕ} → Stored k es c l → layersIn k ≡ length es
+pub stored-many : {k : List ℕ} {es : List Layer} {c : List ℤ} {l : List ℕ} → Stored k es c l → layersIn k ≡ length es
 stored-many {k} {es} {c} {l} s =
     layers-in-two k ∙ ap twoOf (s .here ∙ contents-front es c l (replicate (s .filler) 0))
     ∙ two-read (length es) (layersBytes c es ++ (l ++ replicate (s .filler) 0))
