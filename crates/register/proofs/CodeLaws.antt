@@ -28,9 +28,6 @@ pub record Words (l : List ℤ) : Type 0 where
 pub bytes-drop : (n : ℕ) {k : List ℕ} → Bytes k → Bytes (drop n k)
 bytes-drop n {k} b = record { each = λ i. omega (arith, getD-drop n k i 0, b .each (n + i)) }
 
-pub bytes-take : (n : ℕ) {k : List ℕ} → Bytes k → ((i : ℕ) → i < n → getD (take n k) i 0 < 256)
-bytes-take n {k} b i h = omega (arith, getD-take n k i 0 h, b .each i)
-
 pub words-part : (f n : ℕ) (c : List ℤ) → Words c → f + n ≤ length c → (i : ℕ) → i < n → InWord (getD (take n (drop f c)) i (pos 0))
 words-part f n c w h i b =
     subst InWord (sym (getD-take n (drop f c) i (pos 0) b ∙ getD-drop f c i (pos 0))) (w .each (f + i) (omega arith))

@@ -1,5 +1,7 @@
--- The theorems on reading the register file, and the laws behind them.
+-- The theorems on reading the register file: one outcome for each input (ReadExact), and what is written is read back (ReadWritten).
+-- The rest are the laws behind them.
 pub mod ReadExact
+pub mod ReadWritten
 mod CodeLaws
 mod LayerLaws
 mod StoredLaws

@@ -1,8 +1,8 @@
 -- Reading leaves one outcome for each file and each lent memory: the answer and every lent element. It goes by stages, as 01's order
 -- does; of a sound file the contents are fixed, and they hold at most one stack with its strips. A refusal leaves the lent memory as it
 -- was, and what is judged after CONTENT is refused by 2 to 7 only. Assumes nothing.
-use mathlib.Core.Path.{_≡_, refl, sym, ap, ap₂, _∙_, subst}
-use mathlib.Core.Logic.{_⊎_, inl, inr}
+use mathlib.Core.Path.{_≡_, refl, sym, ap, _∙_, subst}
+use mathlib.Core.Logic.{inl, inr}
 use mathlib.Core.List.{List}
 use Prim.Native.Nat.{ℕ, _/_, _%_, _≤_, _<_}
 use native.Mathlib.Omega.{arith}
