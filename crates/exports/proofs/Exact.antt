@@ -31,11 +31,15 @@ use Rattle.exports.specs.declared.stacks.MeshAnswer.{MeshAnswer}
 use Rattle.exports.specs.Shown.{valued, followed, listed}
 use Rattle.register.specs.Writing.{WriteAnswer}
 use Rattle.register.proofs.WriteExact.{write-unique}
+use Rattle.register.specs.declared.ReadBack.{ReadBack}
+use Rattle.register.specs.Reading.{Lent, ReadAnswer}
+use Rattle.register.proofs.ReadExact.{read-unique}
+use Rattle.exports.specs.declared.files.FileAnswer.{FileAnswer}
 use Rattle.listing.specs.declared.Listed.{Listed}
 use Rattle.listing.specs.Listing.{ListingAnswer}
 use Rattle.listing.proofs.Unique.{answer-unique}
 use Rattle.exports.specs.declared.files.BytesAnswer.{BytesAnswer}
-use Rattle.exports.specs.Files.{writtenAs, listedAs}
+use Rattle.exports.specs.Files.{writtenAs, readAs, listedAs}
 use Rattle.exports.specs.Stacks.{stackAs, stripsAs, bandedAs, volumedAs, meshedAs}
 
 -- what is shown of one answer
@@ -99,3 +103,7 @@ register-write-unique {st} {c} {l} {out} (x, (p, e)) (y, (q, f)) =
 pub register-listing-unique : {t out new old : List ℕ} {r r′ : BytesAnswer} → ((x : Listed) × (ListingAnswer t out new x × (r ≡ listedAs x)))
     → ((x : Listed) × (ListingAnswer t out old x × (r′ ≡ listedAs x))) → (new ≡ old) × (r ≡ r′)
 register-listing-unique (x, (p, e)) (y, (q, f)) = let same = answer-unique p q in (same .1, e ∙ ap listedAs (same .0) ∙ sym f)
+
+pub register-read-unique : {f : List ℕ} {x y z : Lent} {r r′ : FileAnswer} → ((b : ReadBack) × (ReadAnswer f x y b × (r ≡ readAs b)))
+    → ((b : ReadBack) × (ReadAnswer f x z b × (r′ ≡ readAs b))) → (y ≡ z) × (r ≡ r′)
+register-read-unique (b, (p, e)) (d, (q, f)) = let same = read-unique p q in (same .0, e ∙ ap readAs (same .1) ∙ sym f)

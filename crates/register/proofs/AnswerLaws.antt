@@ -1,7 +1,7 @@
 -- From what the steps of reading find to the cases of 01's order, for every sound file with these contents; and the five slices filled.
 -- Assumes nothing.
-use mathlib.Core.Path.{_≡_, refl, sym, ap, ap₂, _∙_, subst}
-use mathlib.Core.Bool.{Bool, true, false, _||_}
+use mathlib.Core.Path.{_≡_, sym, ap, ap₂, _∙_, subst}
+use mathlib.Core.Bool.{true, false, _||_}
 use mathlib.Core.List.{List, _++_, map}
 use Prim.Native.Nat.{ℕ, _+_, _*_, _-_, _/_, _≤_, _<_}
 use native.Mathlib.Omega.{arith}
@@ -9,10 +9,9 @@ use lib.Dec.{ltb}
 use lib.IntN.{ℤ}
 use lib.ListN.{length, take, drop, length-map}
 use lib.Seq.{take-at}
-use borrow.Author.Tests.{ltb-true, ltb-false, le-ltb}
+use borrow.Author.Tests.{ltb-false, le-ltb}
 use Rattle.whole.proofs.TestLaws.{true≢false, or-false}
 use Rattle.fault.specs.declared.Refusal.{Refusal}
-use Rattle.fault.specs.declared.Fault.{Fault}
 use Rattle.fault.specs.declared.Fault.the-variants.{Layers, Content, Room}
 use Rattle.trace.specs.Pair.{at}
 use Rattle.stack.specs.declared.Layer.{Layer}
@@ -27,7 +26,6 @@ use Rattle.stack.specs.Strips.{StripsRight, StripsJudged}
 use Rattle.stack.specs.Laid.{laid}
 use Rattle.stack.specs.Refusals.{stackRefusal, stripsRefusal}
 use Rattle.stack.proofs.Told.{OfStack, OfStrips, stack-refused, stack-fit, strips-refused, strips-right}
-use Rattle.blocks.specs.Blocks.{contentsOf}
 use Rattle.blocks.specs.Faults.{Sound, BlocksJudged}
 use Rattle.blocks.specs.declared.BlocksJudgement.{BlocksJudgement}
 use Rattle.blocks.specs.declared.BlocksJudgement.the-variants as blocks-are
@@ -36,13 +34,13 @@ use Rattle.register.specs.declared.ReadBack.{ReadBack}
 use Rattle.register.specs.declared.ReadBack.the-variants as read-is
 use Rattle.register.specs.declared.judging.Extent.{Extent}
 use Rattle.register.specs.Stored.{Stored, layersIn, LayersIn, ContentFault}
-use Rattle.register.specs.Decoding.{twoOf, layersFrom, coordsFrom, layersOf, coordsOf, stepsAt, stripsOf, StoredHere}
+use Rattle.register.specs.Decoding.{twoOf, layersFrom, coordsFrom, layersOf, coordsOf, stripsOf, StoredHere}
 use Rattle.register.specs.Reading.{Lent, lent, EnoughFor, filled, ReadAnswer, blocks, layers, content, stack, room, strips, whole}
 use Rattle.register.specs.Filling.{Front}
-use Rattle.register.specs.Answering.{contentsEnd, Ended, Layered, Reaches, Ready, ReadFrom, blocksRefusal}
+use Rattle.register.specs.Answering.{contentsEnd, Layered, Ready, ReadFrom, blocksRefusal}
 use Rattle.stack.specs.Gathered.{Gathers}
 use Rattle.register.proofs.StoredLaws.{layers-in-two, stored-ended}
-use Rattle.register.proofs.ExtentLaws.{layers-of-long, layered-laid, layered-many, steps-at}
+use Rattle.register.proofs.ExtentLaws.{layered-laid, layered-many, steps-at}
 
 -- ---- the cases
 

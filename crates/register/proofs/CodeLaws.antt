@@ -28,9 +28,6 @@ pub record Words (l : List ℤ) : Type 0 where
 pub bytes-drop : (n : ℕ) {k : List ℕ} → Bytes k → Bytes (drop n k)
 bytes-drop n {k} b = record { each = λ i. omega (arith, getD-drop n k i 0, b .each (n + i)) }
 
-pub bytes-take : (n : ℕ) {k : List ℕ} → Bytes k → ((i : ℕ) → i < n → getD (take n k) i 0 < 256)
-bytes-take n {k} b i h = omega (arith, getD-take n k i 0 h, b .each i)
-
 pub words-part : (f n : ℕ) (c : List ℤ) → Words c → f + n ≤ length c → (i : ℕ) → i < n → InWord (getD (take n (drop f c)) i (pos 0))
 words-part f n c w h i b =
     subst InWord (sym (getD-take n (drop f c) i (pos 0) b ∙ getD-drop f c i (pos 0))) (w .each (f + i) (omega arith))
@@ -206,13 +203,12 @@ two-at k at a b p q =
     let none : at + 0 ≡ at = omega arith in
     ap₂ (λ (x y : ℕ). x + 256 * y) (p ∙ sym (getD-drop at k 0 0 ∙ ap (λ (i : ℕ). getD k i 0) none)) (q ∙ sym (getD-drop at k 1 0))
 
-pub four-at : (k : List ℕ) (at a b c d : ℕ) → a ≡ getD k at 0 → b ≡ getD k (at + 1) 0 → c ≡ getD k (at + 2) 0 → d ≡ getD k (at + 3) 0
-    → a + 256 * b + 65536 * c + 16777216 * d ≡ fourOf (drop at k)
-unfolding fourOf
-four-at k at a b c d p q r s =
-    let none : at + 0 ≡ at = omega arith in
-    let low : a ≡ getD (drop at k) 0 0 = p ∙ sym (getD-drop at k 0 0 ∙ ap (λ (i : ℕ). getD k i 0) none) in
-    let next : b ≡ getD (drop at k) 1 0 = q ∙ sym (getD-drop at k 1 0) in
-    let third : c ≡ getD (drop at k) 2 0 = r ∙ sym (getD-drop at k 2 0) in
-    let top : d ≡ getD (drop at k) 3 0 = s ∙ sym (getD-drop at k 3 0) in
-    rw (low, next, third, top)
+pub four-at : (k : List ℕ) (at low high : ℕ) → low ≡ twoOf (drop at k) → high ≡ twoOf (drop (at + 2) k)
+    → low + 65536 * high ≡ fourOf (drop at k)
+unfolding fourOf twoOf
+four-at k at low high p q =
+    let r : List ℕ = drop at k in
+    let there : high ≡ getD r 2 0 + 256 * getD r 3 0 =
+    q ∙ ap (λ (l : List ℕ). getD l 0 0 + 256 * getD l 1 0) (sym (drop-drop 2 at k))
+    ∙ ap₂ (λ (x y : ℕ). x + 256 * y) (getD-drop 2 r 0 0) (getD-drop 2 r 1 0) in
+    omega (arith, p)

@@ -1,23 +1,22 @@
 -- How far contents reach: the last layer stops at the last point, and the steps follow from the number of points and the counts of the
 -- lowest and the highest layer. Zeros behind the steps, byte by byte. Assumes nothing.
-use mathlib.Core.Path.{_≡_, refl, sym, ap, ap₂, _∙_, subst}
-use mathlib.Core.Bool.{Bool, true, false}
-use mathlib.Core.List.{List, [], _∷_, _++_}
+use mathlib.Core.Path.{_≡_, sym, ap, ap₂, _∙_}
+use mathlib.Core.Bool.{Bool, false}
+use mathlib.Core.List.{List, [], _∷_}
 use Prim.Native.Nat.{ℕ, zero, suc, _+_, _*_, _-_, _≤_, _<_}
 use native.Mathlib.Omega.{arith}
 use lib.IntN.{ℤ}
-use lib.ListN.{length, getD, take, drop, replicate, length-append, length-drop, length-replicate, getD-replicate}
+use lib.ListN.{length, getD, drop, replicate, length-append, length-drop, length-replicate, getD-replicate}
 use lib.Seq.{ext-getD}
 use Rattle.whole.specs.Tells.{Tells}
-use Rattle.whole.proofs.Parts.{part-lent}
-use Rattle.whole.proofs.Telling.{tells-same, tells-false, tells-true}
+use Rattle.whole.proofs.Telling.{tells-same, tells-false}
 use Rattle.stack.specs.declared.Layer.{Layer}
 use Rattle.stack.specs.declared.Stack.{Stack}
 use Rattle.stack.specs.Entries.{entry, stop, steps}
 use Rattle.stack.specs.Laid.{laid}
 use Rattle.stack.proofs.Laying.{laid-only}
 use Rattle.register.specs.Stored.{layersIn}
-use Rattle.register.specs.Decoding.{countHere, past, numbers, layersFrom, coordsFrom, wide, layersOf, coordsOf, stepsAt}
+use Rattle.register.specs.Decoding.{countHere, past, numbers, coordsFrom, layersOf, coordsOf, stepsAt}
 use Rattle.register.specs.Answering.{contentsEnd, Ended, Layered}
 use Rattle.register.proofs.CodeLaws.{Bytes, bytes-drop, two-of-small, numbers-long}
 use Rattle.register.proofs.LayerLaws.{Chain, chain-ends, chain-steps, coords-long, wide-is, layers-long}

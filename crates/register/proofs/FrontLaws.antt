@@ -10,7 +10,7 @@ use lib.ListN.{length, getD, take, drop, set, length-append, length-set, List·g
 use lib.Seq.{take-all, take-at, drop-at, drop-drop, drop-cons, set-at, append-snoc, take-suc, length-take-le}
 use borrow.Rule.Slice.PartMut.{putMid, same-len-mid}
 use Rattle.whole.proofs.Parts.{part-lent, part-back}
-use Rattle.register.specs.Decoding.{numbers, countHere, layerHere, past, coordsFrom, placeOf}
+use Rattle.register.specs.Decoding.{numbers, countHere, past, coordsFrom, placeOf}
 use Rattle.register.specs.Filling.{Front}
 use Rattle.register.proofs.CodeLaws.{numbers-long}
 use Rattle.register.proofs.GatherLaws.{place-next}

@@ -1,15 +1,15 @@
 -- Layers and their bytes. In a stack each layer starts where the one before stops, so the coordinates are the traces one after another,
 -- and the layers can be read from the front on: reading undoes writing (`layers-read`), and for bytes below 256 writing undoes reading
 -- (`layers-write`). Assumes nothing.
-use mathlib.Core.Path.{_≡_, refl, sym, ap, ap₂, _∙_, subst}
+use mathlib.Core.Path.{_≡_, refl, sym, ap, ap₂, _∙_}
 use mathlib.Core.List.{List, [], _∷_, _++_, append-assoc}
-use Prim.Native.Nat.{ℕ, zero, suc, _+_, _*_, _-_, _/_, _%_, _≤_, _<_}
+use Prim.Native.Nat.{ℕ, zero, suc, _+_, _*_, _%_, _≤_, _<_}
 use native.Mathlib.Omega.{arith}
 use lib.IntN.{ℤ, pos}
 use lib.ListN.{length, getD, take, drop, length-append, length-take, length-drop, take-append-drop, drop-of-length-le}
-use lib.Seq.{drop-drop, take-at, drop-at, length-take-le}
+use lib.Seq.{drop-drop, take-at, drop-at}
 use Rattle.stack.specs.declared.Layer.{Layer}
-use Rattle.stack.specs.Entries.{entry, noLayer, traceOf, stop, start, steps}
+use Rattle.stack.specs.Entries.{entry, traceOf, stop, start, steps}
 use Rattle.stack.specs.Faults.{Breaks, starts, ends, Spanned}
 use Rattle.stack.proofs.StackLaws.{spanned-first, spanned-end}
 use Rattle.blocks.specs.Blocks.{two}
@@ -112,7 +112,7 @@ layer-front : (c : List ℤ) (e : Layer) (r : List ℕ)
 unfolding layerBytes
 layer-front c e r = simp append-assoc
 
-trace-long : (c : List ℤ) (e : Layer) → 2 * stop e ≤ length c → length (traceOf c e) ≡ 2 * e .count
+pub trace-long : (c : List ℤ) (e : Layer) → 2 * stop e ≤ length c → length (traceOf c e) ≡ 2 * e .count
 unfolding traceOf
 trace-long c e h = simp (length-take, length-drop) (omega arith)
 
@@ -169,7 +169,7 @@ same-layer e {z} {f} {n} p q r =
     of z f n = record { plane = z; first = f; count = n }
 
 -- all that is read of layers es over c, with r behind
-pub record ReadBack (c : List ℤ) (f : ℕ) (es : List Layer) (r : List ℕ) : Type 0 where
+pub record LayersRead (c : List ℤ) (f : ℕ) (es : List Layer) (r : List ℕ) : Type 0 where
   pub layers : layersFrom (length es) f (layersBytes c es ++ r) ≡ es
   pub coords : coordsFrom (length es) (layersBytes c es ++ r) ≡ drop (2 * f) c
   pub bytes : wide (length es) (layersBytes c es ++ r) ≡ length (layersBytes c es)
@@ -187,7 +187,7 @@ trace-rest c e f h =
     ∙ ap (λ (l : List ℤ). take (2 * e .count) (drop (2 * f) c) ++ l) (sym (drop-drop (2 * e .count) (2 * f) c))
     ∙ take-append-drop (2 * e .count) (drop (2 * f) c)
 
-pub layers-read : {c : List ℤ} {f : ℕ} {es : List Layer} → Chain c f es → Words c → Planes es → (r : List ℕ) → ReadBack c f es r
+pub layers-read : {c : List ℤ} {f : ℕ} {es : List Layer} → Chain c f es → Words c → Planes es → (r : List ℕ) → LayersRead c f es r
 unfolding layersBytes layersFrom coordsFrom wide
 layers-read {c} {f} (end h) w p r = record { layers = refl; coords = nothing-left c f h; bytes = refl }
 layers-read {c} {f} (next {e = e} {es = es} g h) w p r =
@@ -198,7 +198,7 @@ layers-read {c} {f} (next {e = e} {es = es} g h) w p r =
     let on : past (layerBytes c e ++ rest) ≡ rest = read-past c e rest inside in
     let plane : number (layerBytes c e ++ rest) ≡ e .plane = read-plane c e rest inside (p .each 0 (omega arith)) in
     let trace = read-trace c e rest inside w in
-    let others : ReadBack c (f + e .count) es r = layers-read h w (planes-rest p) r in
+    let others : LayersRead c (f + e .count) es r = layers-read h w (planes-rest p) r in
     record {
       layers =
           ap (layersFrom (suc (length es)) f) whole

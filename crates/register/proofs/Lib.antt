@@ -3,6 +3,7 @@
 pub mod RoundTrip
 pub mod Changes
 pub mod WriteExact
+pub mod ReadExact
 mod PutLaws
 mod WriteLaws
 mod CodeLaws

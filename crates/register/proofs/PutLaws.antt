@@ -25,6 +25,8 @@ use Rattle.stack.specs.declared.Layer.{Layer}
 use Rattle.stack.specs.Entries.{noLayer, entry, traceOf, stop, start, steps}
 use Rattle.stack.specs.Faults.{Spanned}
 use Rattle.stack.proofs.StackLaws.{spanned-first, spanned-end, spanned-inside}
+use Rattle.register.proofs.CodeLaws.{four-long, fours-long}
+use Rattle.register.proofs.LayerLaws.{trace-long}
 use Rattle.register.specs.Contents.{complement, four, fours, layerBytes, layersBytes, contents, contentsLong}
 
 -- ---- two's complement
@@ -110,15 +112,6 @@ four-filled (a ∷ b ∷ c ∷ d ∷ l) z e h = rw e (record { filled = refl })
 
 -- ---- numbers one behind the other
 
-pub four-long : (z : ℤ) → length (four z) ≡ 4
-unfolding four
-four-long z = refl
-
-pub fours-long : (l : List ℤ) → length (fours l) ≡ 4 * length l
-unfolding fours
-fours-long [] = refl
-fours-long (z ∷ l) = simp length-append (omega (arith, four-long z, fours-long l))
-
 pub fours-append : (l m : List ℤ) → fours (l ++ m) ≡ fours l ++ fours m
 unfolding fours
 fours-append [] m = refl
@@ -167,15 +160,10 @@ layer-filled plane n c f g h =
 
 -- ---- all layers
 
--- the trace of a layer that lies inside the list
-pub trace-long : (c : List ℤ) (e : Layer) → stop e ≤ length c / 2 → length (traceOf c e) ≡ 2 * e .count
-unfolding traceOf
-trace-long c e h = length-take-le (2 * e .count) (drop (2 * e .first) c) (omega (arith, length-drop (2 * e .first) c))
-
 pub layer-long : (c : List ℤ) (e : Layer) → stop e ≤ length c / 2 → length (layerBytes c e) ≡ 6 + 8 * e .count
 unfolding layerBytes two
 layer-long c e h =
-    simp length-append (omega (arith, four-long (e .plane), fours-long (traceOf c e), trace-long c e h))
+    simp length-append (omega (arith, four-long (e .plane), fours-long (traceOf c e), trace-long c e (omega arith)))
 
 layers-append : (c : List ℤ) (es fs : List Layer) → layersBytes c (es ++ fs) ≡ layersBytes c es ++ layersBytes c fs
 unfolding layersBytes

@@ -30,7 +30,9 @@ use Rattle.register.specs.Contents.{contents, contentsLong, registerFile
 use Rattle.register.specs.Stored.{InWord, Stored, layersIn, LayersIn}
 use Rattle.register.specs.Reading.{Lent, lent, EnoughFor, filled, ReadAnswer, whole}
 use Rattle.register.specs.Reading as read
-use Rattle.register.proofs.PutLaws.{contents-long, trace-long}
+use Rattle.register.proofs.ReadExact.{read-unique}
+use Rattle.register.proofs.LayerLaws.{trace-long}
+use Rattle.register.proofs.PutLaws.{contents-long}
 use Rattle.register.proofs.WriteLaws.{blocks-some, blocks-few}
 
 -- ---- an accepted stack can be stored
@@ -114,6 +116,11 @@ module _ {es : List Layer} {c : List ℤ} (a : AcceptedStack es c) where
     pub written-is-read : {x : Lent} → EnoughFor es c l x
         → ReadAnswer (registerFile es c l) x (filled es c l x) (read-is.Whole (length es) (length c / 2) (length l))
     written-is-read e = whole file-sound file-holds a e r
+
+    -- and nothing else can come back
+    pub nothing-else-is-read : {x y : Lent} {s : ReadBack} → EnoughFor es c l x → ReadAnswer (registerFile es c l) x y s
+        → (y ≡ filled es c l x) × (s ≡ read-is.Whole (length es) (length c / 2) (length l))
+    nothing-else-is-read e p = read-unique p (written-is-read e)
 
 -- ---- what was read
 

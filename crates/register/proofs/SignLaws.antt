@@ -1,6 +1,6 @@
 -- Two's complement on the machine: a number below 2^31 is the same as a signed word, and one from 2^31 on is less by 2^32, which fits
 -- where it should. Assumes nothing.
-use mathlib.Core.Path.{_≡_, refl, sym, ap, _∙_}
+use mathlib.Core.Path.{_≡_, sym, ap, _∙_}
 use mathlib.Core.Bool.{Bool, cond}
 use Prim.Native.Nat.{ℕ, _+_, _-_, _≤_, _<_}
 use native.Mathlib.Omega.{arith}

@@ -1,22 +1,21 @@
 -- What contents hold is what is read of them (`stored-read`): so they hold at most one stack with its strips. And they do hold what is
 -- read exactly if the steps end inside them, fewer than 508 bytes are left, and these are zero (`stored-tells`). Assumes nothing.
 use mathlib.Core.Path.{_≡_, refl, sym, ap, ap₂, _∙_, subst}
-use mathlib.Core.List.{List, [], _∷_, _++_, append-assoc}
-use Prim.Native.Nat.{ℕ, zero, suc, _+_, _*_, _-_, _/_, _%_, _≤_, _<_}
+use mathlib.Core.List.{List, [], _++_, append-assoc}
+use Prim.Native.Nat.{ℕ, zero, _+_, _-_, _≤_, _<_}
 use native.Mathlib.Omega.{arith}
-use lib.IntN.{ℤ, pos}
-use lib.ListN.{length, getD, take, drop, replicate, length-append, length-take, length-drop, length-replicate, take-append-drop}
-use lib.Seq.{drop-drop, take-at, drop-at, length-take-le, drop-append-add}
+use lib.IntN.{ℤ}
+use lib.ListN.{length, take, drop, replicate, length-append, length-drop, length-replicate, take-append-drop}
+use lib.Seq.{drop-drop, take-at, drop-at, length-take-le}
 use Rattle.stack.specs.declared.Layer.{Layer}
-use Rattle.stack.specs.Entries.{entry, steps}
-use Rattle.stack.specs.Faults.{Spanned}
+use Rattle.stack.specs.Entries.{steps}
 use Rattle.blocks.specs.Blocks.{two}
 use Rattle.register.specs.Contents.{contents, layersBytes}
-use Rattle.register.specs.Stored.{InWord, Stored, layersIn, LayersIn, ContentFault}
-use Rattle.register.specs.Decoding.{twoOf, numbers, countHere, layerHere, past, layersFrom, coordsFrom, wide, layersOf, coordsOf, stepsAt, stripsOf, StoredHere}
+use Rattle.register.specs.Stored.{Stored, layersIn, ContentFault}
+use Rattle.register.specs.Decoding.{twoOf, layersFrom, coordsFrom, wide, layersOf, coordsOf, stepsAt, stripsOf, StoredHere}
 use Rattle.register.specs.Answering.{contentsEnd, Ended}
-use Rattle.register.proofs.CodeLaws.{Bytes, Words, bytes-drop, two-read, number-word, two-of-small, two-write, numbers-long, numbers-word}
-use Rattle.register.proofs.LayerLaws.{Chain, chain-spanned, spanned-chain, Planes, ReadBack, layers-read, coords-long, wide-is, layers-long, layers-write, layers-range, coords-word}
+use Rattle.register.proofs.CodeLaws.{Bytes, bytes-drop, two-read, two-write}
+use Rattle.register.proofs.LayerLaws.{chain-spanned, spanned-chain, LayersRead, layers-read, coords-long, layers-long, layers-write, layers-range, coords-word}
 
 -- ---- what is held is what is read
 
@@ -46,7 +45,7 @@ pub record Found (k : List ℕ) (es : List Layer) (c : List ℤ) (l : List ℕ) 
   pub whole : stepsAt k + steps es + filler ≡ length k
   pub behind : drop (stepsAt k + steps es) k ≡ replicate filler 0
 
-stored-many : {k : List ℕ} {es : List Layer} {c : List ℤ} {l : List ℕ} → Stored k es c l → layersIn k ≡ length es
+pub stored-many : {k : List ℕ} {es : List Layer} {c : List ℤ} {l : List ℕ} → Stored k es c l → layersIn k ≡ length es
 stored-many {k} {es} {c} {l} s =
     layers-in-two k ∙ ap twoOf (s .here ∙ contents-front es c l (replicate (s .filler) 0))
     ∙ two-read (length es) (layersBytes c es ++ (l ++ replicate (s .filler) 0))
@@ -58,7 +57,7 @@ stored-read {k} {es} {c} {l} some s =
     let many : layersIn k ≡ length es = stored-many s in
     let front : k ≡ two (length es) ++ (layersBytes c es ++ (l ++ z)) = s .here ∙ contents-front es c l z in
     let rest : drop 2 k ≡ layersBytes c es ++ (l ++ z) = ap (drop 2) front ∙ two-behind (length es) (layersBytes c es ++ (l ++ z)) in
-    let read : ReadBack c 0 es (l ++ z) =
+    let read : LayersRead c 0 es (l ++ z) =
     layers-read (spanned-chain (s .spanned) (omega arith)) (record { each = s .coords }) (record { each = s .planes }) (l ++ z) in
     let layers : layersFrom (layersIn k) 0 (drop 2 k) ≡ es =
     ap₂ (λ (n : ℕ) (r : List ℕ). layersFrom n 0 r) many rest ∙ read .layers in

@@ -1,12 +1,11 @@
 -- Inner: what reading takes contents to say, from the front on. A byte past the end is 0, so every count leads somewhere. No public
 -- contract cites this file.
-use mathlib.Core.Path.{_≡_}
 use mathlib.Core.Bool.{cond}
 use mathlib.Core.List.{List, [], _∷_, _++_}
 use Prim.Native.Nat.{ℕ, zero, suc, _+_, _*_, _-_}
 use lib.Dec.{ltb}
 use lib.IntN.{ℤ, pos, negsuc}
-use lib.ListN.{length, getD, take, drop}
+use lib.ListN.{getD, take, drop}
 use Rattle.stack.specs.declared.Layer.{Layer}
 use Rattle.stack.specs.Entries.{steps}
 use Rattle.register.specs.Stored.{Stored, layersIn}

@@ -22,11 +22,10 @@ pub(crate) fn two_at(list: &[u8], at: usize) -> usize
 
 // Four bytes, low first.
 fn four_at(list: &[u8], at: usize) -> usize
-    requires { ⌜ at ≤ 16777216 ⌝ }
+    requires { ⌜ at ≤ 16777212 ⌝ }
     ensures { λ r. ⌜ (r ≡ fourOf (drop at (now (list .entry)))) × (r < 4294967296) ⌝ }
 {
-    let low = byte_at(list, at) + 256 * byte_at(list, at + 1);
-    low + 65_536 * byte_at(list, at + 2) + 16_777_216 * byte_at(list, at + 3)
+    two_at(list, at) + 65_536 * two_at(list, at + 2)
 }
 
 // Two's complement: from 2^31 on a number is below zero.
@@ -43,7 +42,7 @@ fn with_sign(v: usize) -> i32
 
 // A coordinate or a plane.
 pub(crate) fn number_at(list: &[u8], at: usize) -> i32
-    requires { ⌜ at ≤ 16777216 ⌝ }
+    requires { ⌜ at ≤ 16777212 ⌝ }
     ensures { λ r. ⌜ r ≡ number (drop at (now (list .entry))) ⌝ }
 {
     with_sign(four_at(list, at))

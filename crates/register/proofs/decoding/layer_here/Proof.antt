@@ -1,6 +1,5 @@
 -- `register::decoding::layer_here` meets its contract. Assumes nothing.
 use mathlib.Core.Path.{refl, sym, ap, _∙_}
-use Prim.Native.Nat.{_+_, _*_}
 use lib.ListN.{drop}
 use lib.Seq.{drop-drop}
 use mir.Syntax.{w32}

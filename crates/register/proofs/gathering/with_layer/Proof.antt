@@ -1,6 +1,5 @@
 -- `register::gathering::with_layer` meets its contract: three stores are one entry more. Assumes nothing.
 use mathlib.Core.Path.{refl}
-use native.Mathlib.Omega.{arith}
 use mir.Syntax.{w32}
 use Rattle.whole.proofs.Machine.{read-back}
 use Rattle.register.proofs.GatherLaws.{gathering-more}

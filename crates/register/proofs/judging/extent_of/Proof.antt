@@ -1,7 +1,6 @@
 -- `register::judging::extent_of` meets its contract: nothing wraps, since no count is over 65,535. Assumes nothing.
-use mathlib.Core.Path.{_≡_, sym, _∙_}
 use native.Mathlib.Omega.{arith}
-use Rattle.register.specs.Answering.{contentsEnd, Reaches}
+use Rattle.register.specs.Answering.{contentsEnd}
 use Rattle.register.proofs.ExtentLaws.{Extended, layered-many, extended}
 use borrow.Author.Needs.{needs}
 use Rattle.register.proofs.judging.extent_of.Statement.{statement}

@@ -13,7 +13,8 @@ use Rattle.stack.proofs.StackLaws.{accepted-inside, accepted-count}
 use Rattle.stack.proofs.Laying.{laid-long}
 use Rattle.blocks.specs.Blocks.{two}
 use Rattle.register.specs.Contents.{four, fours, layerBytes}
-use Rattle.register.proofs.PutLaws.{trace-long, layer-long}
+use Rattle.register.proofs.PutLaws.{layer-long}
+use Rattle.register.proofs.LayerLaws.{trace-long}
 use borrow.Author.Needs.{needs}
 use Rattle.register.proofs.putting.put_layer_of.Statement.{statement}
 use Rattle.register.proofs.putting.put_layer_of.Tie as tie
@@ -50,7 +51,7 @@ put-layer-requires c κs =
       omega (
         arith,
         ap length (c .trace-of .ensures),
-        trace-long (start .args .coords .now) (c .before .before .layer-at .result) (inside (c .before .before)),
+        trace-long (start .args .coords .now) (c .before .before .layer-at .result) (omega (arith, inside (c .before .before))),
         long (c .before .before),
         start .pre .2,
       ),
