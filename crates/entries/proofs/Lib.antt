@@ -1,2 +1,3 @@
 -- Laws of gathering.
 mod GatherLaws
+mod Gathered

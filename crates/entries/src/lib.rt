@@ -7,9 +7,18 @@ ghost use Rattle.stack.specs.declared.Layer.{Layer};
 ghost use Rattle.stack.specs.declared.Stack.{Stack};
 ghost use Rattle.stack.specs.Entries.{entry};
 ghost use Rattle.stack.specs.Gathered.{Gathers};
+ghost use Rattle.stack.specs.Faults.{StackJudged};
+ghost use Rattle.stack.specs.Strips.{StripsAnswered};
+ghost use Rattle.bands.specs.Bands.{BandsAnswer};
+ghost use Rattle.mesh.specs.Meshing.{Measured, Triangled};
 ghost use Rattle.entries.specs.Gathering.{Gathering};
+use bands::Banded;
+use mesh::Meshed;
+use mesh::Volumed;
 use stack::Layer;
 use stack::Stack;
+use stack::StackJudgement;
+use stack::StripsJudgement;
 
 // The first 20 entries, field by field, and how many there are.
 pub fn gather(layers: &[Layer]) -> Stack
@@ -59,4 +68,36 @@ fn up_to_20(n: usize) -> usize
     ensures { λ r. ⌜ r ≡ min n 20 ⌝ }
 {
     if n < 20 { n } else { 20 }
+}
+
+// Takes every list of entries and every list of coordinates.
+pub fn judge_stack(layers: &[Layer], coords: &[i32]) -> StackJudgement
+    ensures { λ r. ⌜ StackJudged (now (layers .entry)) (now (coords .entry)) r ⌝ }
+{
+    stack::judge_stack(gather(layers), coords)
+}
+
+pub fn judge_strips(layers: &[Layer], strips: &[u8]) -> StripsJudgement
+    ensures { λ r. ⌜ StripsAnswered (now (layers .entry)) (now (strips .entry)) r ⌝ }
+{
+    stack::judge_strips(gather(layers), strips)
+}
+
+pub fn volume(layers: &[Layer], coords: &[i32], strips: &[u8]) -> Volumed
+    ensures { λ r. ⌜ Measured (now (layers .entry)) (now (coords .entry)) (now (strips .entry)) r ⌝ }
+{
+    mesh::volume(gather(layers), coords, strips)
+}
+
+pub fn triangles(layers: &[Layer], coords: &[i32], strips: &[u8], out: &mut [u32]) -> Meshed
+    ensures { λ r. ⌜ Triangled (now (layers .entry)) (now (coords .entry)) (now (strips .entry)) (now (out .entry)) (now (out .exit)) r ⌝ }
+{
+    mesh::triangles(gather(layers), coords, strips, out)
+}
+
+pub fn best_strips(layers: &[Layer], coords: &[i32], strips: &mut [u8], work: &mut [u8]) -> Banded
+    ensures { λ r. ⌜ BandsAnswer (now (layers .entry)) (now (coords .entry))
+        (now (strips .entry)) (now (work .entry)) (now (strips .exit)) (now (work .exit)) r ⌝ }
+{
+    bands::best_strips(gather(layers), coords, strips, work)
 }
