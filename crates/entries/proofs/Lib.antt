@@ -1,0 +1,3 @@
+-- Laws of gathering.
+mod GatherLaws
+mod Gathered

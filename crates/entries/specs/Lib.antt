@@ -1,0 +1,2 @@
+-- Entries, gathered one by one from a lent slice.
+pub mod Gathering

@@ -1,0 +1,103 @@
+// The entry points over a lent slice of layer entries.
+ghost use mathlib.Core.Path.{_≡_};
+ghost use mathlib.Core.List.{List};
+ghost use Prim.Native.Nat.{ℕ, suc, _≤_, _<_, min};
+ghost use lib.ListN.{length};
+ghost use Rattle.stack.specs.declared.Layer.{Layer};
+ghost use Rattle.stack.specs.declared.Stack.{Stack};
+ghost use Rattle.stack.specs.Entries.{entry};
+ghost use Rattle.stack.specs.Gathered.{Gathers};
+ghost use Rattle.stack.specs.Faults.{StackJudged};
+ghost use Rattle.stack.specs.Strips.{StripsAnswered};
+ghost use Rattle.bands.specs.Bands.{BandsAnswer};
+ghost use Rattle.mesh.specs.Meshing.{Measured, Triangled};
+ghost use Rattle.entries.specs.Gathering.{Gathering};
+use bands::Banded;
+use mesh::Meshed;
+use mesh::Volumed;
+use stack::Layer;
+use stack::Stack;
+use stack::StackJudgement;
+use stack::StripsJudgement;
+
+// The first 20 entries, field by field, and how many there are.
+pub fn gather(layers: &[Layer]) -> Stack
+    ensures { λ r. ⌜ Gathers r (now (layers .entry)) ⌝ }
+{
+    let end = up_to_20(layers.len());
+    let mut stack = no_layers(layers.len());
+    let mut k = 0;
+    while k < end {
+        stack = put(layers, stack, k);
+        k += 1;
+    }
+    stack
+}
+
+// Entry `k`, put behind those that are gathered.
+fn put(layers: &[Layer], stack: Stack, k: usize) -> Stack
+    requires { ⌜ (k < length (now layers)) × (k < 20) × Gathering stack (now layers) k ⌝ }
+    ensures { λ r. ⌜ Gathering r (now (layers .entry)) (suc k) ⌝ }
+{
+    with_layer(stack, k, layers[k])
+}
+
+fn with_layer(mut stack: Stack, k: usize, e: Layer) -> Stack
+    requires { ⌜ k < 20 ⌝ }
+    ensures { λ r. ⌜ ((es : List Layer) → Gathering stack es k → entry es k ≡ e → Gathering r es (suc k)) ⌝ }
+{
+    let plane = e.plane;
+    stack.plane[k] = plane;
+    stack.first[k] = e.first;
+    stack.count[k] = e.count;
+    stack
+}
+
+fn no_layers(n: usize) -> Stack
+    ensures { λ r. ⌜ ((es : List Layer) → length es ≡ n → Gathering r es 0) ⌝ }
+{
+    Stack {
+        plane: [0; 20],
+        first: [0; 20],
+        count: [0; 20],
+        layers: n,
+    }
+}
+
+fn up_to_20(n: usize) -> usize
+    ensures { λ r. ⌜ r ≡ min n 20 ⌝ }
+{
+    if n < 20 { n } else { 20 }
+}
+
+// Takes every list of entries and every list of coordinates.
+pub fn judge_stack(layers: &[Layer], coords: &[i32]) -> StackJudgement
+    ensures { λ r. ⌜ StackJudged (now (layers .entry)) (now (coords .entry)) r ⌝ }
+{
+    stack::judge_stack(gather(layers), coords)
+}
+
+pub fn judge_strips(layers: &[Layer], strips: &[u8]) -> StripsJudgement
+    ensures { λ r. ⌜ StripsAnswered (now (layers .entry)) (now (strips .entry)) r ⌝ }
+{
+    stack::judge_strips(gather(layers), strips)
+}
+
+pub fn volume(layers: &[Layer], coords: &[i32], strips: &[u8]) -> Volumed
+    ensures { λ r. ⌜ Measured (now (layers .entry)) (now (coords .entry)) (now (strips .entry)) r ⌝ }
+{
+    mesh::volume(gather(layers), coords, strips)
+}
+
+pub fn triangles(layers: &[Layer], coords: &[i32], strips: &[u8], out: &mut [u32]) -> Meshed
+    ensures { λ r. ⌜ Triangled (now (layers .entry)) (now (coords .entry)) (now (strips .entry)) (now (out .entry)) (now (out .exit)) r ⌝ }
+{
+    mesh::triangles(gather(layers), coords, strips, out)
+}
+
+pub fn best_strips(layers: &[Layer], coords: &[i32], strips: &mut [u8], work: &mut [u8]) -> Banded
+    ensures { λ r. ⌜ BandsAnswer (now (layers .entry)) (now (coords .entry))
+        (now (strips .entry)) (now (work .entry)) (now (strips .exit)) (now (work .exit)) r ⌝ }
+{
+    bands::best_strips(gather(layers), coords, strips, work)
+}
