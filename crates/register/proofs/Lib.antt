@@ -2,11 +2,11 @@
 -- The rest are the laws behind them.
 pub mod ReadExact
 pub mod ReadWritten
-mod CodeLaws
-mod LayerLaws
+mod DecodeLaws
+mod ChainLaws
 mod StoredLaws
 mod SignLaws
 mod GatherLaws
 mod FrontLaws
 mod ExtentLaws
-mod AnswerLaws
+mod ReadCases

@@ -27,8 +27,8 @@ use Rattle.register.specs.Stored.{Stored}
 use Rattle.register.specs.Decoding.{coordsFrom}
 use Rattle.register.specs.Reading.{Lent, EnoughFor, filled, ReadAnswer}
 use Rattle.register.specs.Reading as answer
-use Rattle.register.proofs.CodeLaws.{Words}
-use Rattle.register.proofs.LayerLaws.{Chain, end, next, chain-inside, spanned-chain, trace-long, Planes, LayersRead, layers-read, wide-is}
+use Rattle.register.proofs.DecodeLaws.{Words}
+use Rattle.register.proofs.ChainLaws.{Chain, end, next, chain-inside, spanned-chain, trace-long, Planes, LayersRead, layers-read, wide-is}
 use Rattle.register.proofs.ReadExact.{read-unique}
 
 -- ---- the coordinates are the traces

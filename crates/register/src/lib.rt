@@ -11,7 +11,7 @@ use fault::Refusal;
 use stack::Stack;
 
 mod decoding;
-mod filling;
+mod fronts;
 mod gathering;
 mod judging;
 mod reading;
@@ -32,7 +32,8 @@ pub enum ReadBack {
     Refused(Refusal),
 }
 
-// Takes every file and every slices. All blocks are judged before any content is looked at.
+// Takes every file, and slices of every length. All blocks are judged before any content is looked at, and nothing is written before
+// all is judged.
 pub fn read(
     file: &[u8],
     planes: &mut [i32],
