@@ -18,8 +18,8 @@ use Rattle.stack.proofs.Laying.{laid-only}
 use Rattle.register.specs.Stored.{layersIn}
 use Rattle.register.specs.Decoding.{countHere, past, numbers, coordsFrom, layersOf, coordsOf, stepsAt}
 use Rattle.register.specs.Answering.{contentsEnd, Ended, Layered}
-use Rattle.register.proofs.CodeLaws.{Bytes, bytes-drop, two-of-small, numbers-long}
-use Rattle.register.proofs.LayerLaws.{Chain, chain-ends, chain-steps, coords-long, wide-is, layers-long}
+use Rattle.register.proofs.DecodeLaws.{Bytes, bytes-drop, two-of-small, numbers-long}
+use Rattle.register.proofs.ChainLaws.{Chain, chain-ends, chain-steps, coords-long, wide-is, layers-long}
 
 -- ---- how many coordinates
 

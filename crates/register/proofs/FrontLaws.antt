@@ -11,8 +11,8 @@ use lib.Seq.{take-all, take-at, drop-at, drop-drop, drop-cons, set-at, append-sn
 use borrow.Rule.Slice.PartMut.{putMid, same-len-mid}
 use Rattle.whole.proofs.Parts.{part-lent, part-back}
 use Rattle.register.specs.Decoding.{numbers, countHere, past, coordsFrom, placeOf}
-use Rattle.register.specs.Filling.{Front}
-use Rattle.register.proofs.CodeLaws.{numbers-long}
+use Rattle.register.specs.Fronts.{Front}
+use Rattle.register.proofs.DecodeLaws.{numbers-long}
 use Rattle.register.proofs.GatherLaws.{place-next}
 use Rattle.stack.specs.Entries.{noLayer, entry}
 use Rattle.stack.specs.declared.Layer.{Layer}

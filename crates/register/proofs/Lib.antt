@@ -6,11 +6,11 @@ pub mod WriteExact
 pub mod ReadExact
 mod PutLaws
 mod WriteLaws
-mod CodeLaws
-mod LayerLaws
+mod DecodeLaws
+mod ChainLaws
 mod StoredLaws
 mod SignLaws
 mod GatherLaws
 mod FrontLaws
 mod ExtentLaws
-mod AnswerLaws
+mod ReadCases

@@ -25,8 +25,8 @@ use Rattle.stack.specs.declared.Layer.{Layer}
 use Rattle.stack.specs.Entries.{noLayer, entry, traceOf, stop, start, steps}
 use Rattle.stack.specs.Faults.{Spanned}
 use Rattle.stack.proofs.StackLaws.{spanned-first, spanned-end, spanned-inside}
-use Rattle.register.proofs.CodeLaws.{four-long, fours-long}
-use Rattle.register.proofs.LayerLaws.{trace-long}
+use Rattle.register.proofs.DecodeLaws.{four-long, fours-long}
+use Rattle.register.proofs.ChainLaws.{trace-long}
 use Rattle.register.specs.Contents.{complement, four, fours, layerBytes, layersBytes, contents, contentsLong}
 
 -- ---- two's complement

@@ -31,7 +31,7 @@ use Rattle.register.specs.Stored.{InWord, Stored, layersIn, LayersIn}
 use Rattle.register.specs.Reading.{Lent, lent, EnoughFor, filled, ReadAnswer, whole}
 use Rattle.register.specs.Reading as read
 use Rattle.register.proofs.ReadExact.{read-unique}
-use Rattle.register.proofs.LayerLaws.{trace-long}
+use Rattle.register.proofs.ChainLaws.{trace-long}
 use Rattle.register.proofs.PutLaws.{contents-long}
 use Rattle.register.proofs.WriteLaws.{blocks-some, blocks-few}
 

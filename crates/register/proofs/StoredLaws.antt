@@ -14,8 +14,8 @@ use Rattle.register.specs.Contents.{contents, layersBytes}
 use Rattle.register.specs.Stored.{Stored, layersIn, ContentFault}
 use Rattle.register.specs.Decoding.{twoOf, layersFrom, coordsFrom, wide, layersOf, coordsOf, stepsAt, stripsOf, StoredHere}
 use Rattle.register.specs.Answering.{contentsEnd, Ended}
-use Rattle.register.proofs.CodeLaws.{Bytes, bytes-drop, two-read, two-write}
-use Rattle.register.proofs.LayerLaws.{chain-spanned, spanned-chain, LayersRead, layers-read, coords-long, layers-long, layers-write, layers-range, coords-word}
+use Rattle.register.proofs.DecodeLaws.{Bytes, bytes-drop, two-read, two-write}
+use Rattle.register.proofs.ChainLaws.{chain-spanned, spanned-chain, LayersRead, layers-read, coords-long, layers-long, layers-write, layers-range, coords-word}
 
 -- ---- what is held is what is read
 

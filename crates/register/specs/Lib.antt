@@ -5,5 +5,5 @@ pub mod Writing
 pub mod Reading
 pub mod Decoding
 pub mod Gathering
-pub mod Filling
+pub mod Fronts
 pub mod Answering

@@ -20,7 +20,7 @@ use stack::StackJudgement;
 use stack::StripsJudgement;
 
 mod decoding;
-mod filling;
+mod fronts;
 mod gathering;
 mod judging;
 mod putting;
@@ -84,7 +84,8 @@ fn no_room() -> Written
     })
 }
 
-// Takes every file and all slices. All blocks are judged before any content is looked at.
+// Takes every file, and slices of every length. All blocks are judged before any content is looked at, and nothing is written before
+// all is judged.
 pub fn read(
     file: &[u8],
     planes: &mut [i32],

@@ -4,7 +4,7 @@ use native.Mathlib.Omega.{arith}
 use lib.ListN.{length-take}
 use Rattle.blocks.specs.Faults.{Sound}
 use Rattle.blocks.proofs.RoundTrip.{opened-contents}
-use Rattle.register.proofs.AnswerLaws.{blocks-told, blocks-sound}
+use Rattle.register.proofs.ReadCases.{blocks-told, blocks-sound}
 use borrow.Author.Needs.{needs}
 use Rattle.register.proofs.read.Statement.{statement}
 use Rattle.register.proofs.read.Tie as tie

@@ -1,6 +1,6 @@
 -- `register::decoding::four_at` meets its contract: twice two bytes. Assumes nothing.
 use native.Mathlib.Omega.{arith}
-use Rattle.register.proofs.CodeLaws.{four-at}
+use Rattle.register.proofs.DecodeLaws.{four-at}
 use borrow.Author.Needs.{needs}
 use Rattle.register.proofs.decoding.four_at.Statement.{statement}
 use Rattle.register.proofs.decoding.four_at.Tie as tie

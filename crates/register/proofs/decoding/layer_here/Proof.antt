@@ -5,7 +5,7 @@ use lib.Seq.{drop-drop}
 use mir.Syntax.{w32}
 use Rattle.whole.proofs.Machine.{returned}
 use Rattle.register.specs.Decoding.{twoOf, layerHere, placeOf}
-use Rattle.register.proofs.LayerLaws.{same-layer}
+use Rattle.register.proofs.ChainLaws.{same-layer}
 use borrow.Author.Needs.{needs}
 use Rattle.register.proofs.decoding.layer_here.Statement.{statement}
 use Rattle.register.proofs.decoding.layer_here.Tie as tie

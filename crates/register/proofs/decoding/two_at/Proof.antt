@@ -1,6 +1,6 @@
 -- `register::decoding::two_at` meets its contract. Assumes nothing.
 use native.Mathlib.Omega.{arith}
-use Rattle.register.proofs.CodeLaws.{two-at}
+use Rattle.register.proofs.DecodeLaws.{two-at}
 use borrow.Author.Needs.{needs}
 use Rattle.register.proofs.decoding.two_at.Statement.{statement}
 use Rattle.register.proofs.decoding.two_at.Tie as tie

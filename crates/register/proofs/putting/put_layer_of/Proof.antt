@@ -14,7 +14,7 @@ use Rattle.stack.proofs.Laying.{laid-long}
 use Rattle.blocks.specs.Blocks.{two}
 use Rattle.register.specs.Contents.{four, fours, layerBytes}
 use Rattle.register.proofs.PutLaws.{layer-long}
-use Rattle.register.proofs.LayerLaws.{trace-long}
+use Rattle.register.proofs.ChainLaws.{trace-long}
 use borrow.Author.Needs.{needs}
 use Rattle.register.proofs.putting.put_layer_of.Statement.{statement}
 use Rattle.register.proofs.putting.put_layer_of.Tie as tie

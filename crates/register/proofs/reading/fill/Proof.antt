@@ -2,7 +2,7 @@
 use mathlib.Core.Path.{ap}
 use native.Mathlib.Omega.{arith}
 use lib.ListN.{length}
-use Rattle.register.proofs.AnswerLaws.{from-end, end-inside, strips-here, layers-long, layers-few, coords-by, all-filled}
+use Rattle.register.proofs.ReadCases.{from-end, end-inside, strips-here, layers-long, layers-few, coords-by, all-filled}
 use borrow.Author.Needs.{needs}
 use Rattle.register.proofs.reading.fill.Statement.{statement}
 use Rattle.register.proofs.reading.fill.Tie as tie

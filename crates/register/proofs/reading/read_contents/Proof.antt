@@ -4,7 +4,7 @@ use borrow.Author.Tests.{not-true, not-false}
 use Rattle.whole.proofs.Telling.{told-not}
 use Rattle.register.specs.Answering.{Layered}
 use Rattle.register.proofs.StoredLaws.{ended-stored, not-held}
-use Rattle.register.proofs.AnswerLaws.{layers-wrong, content-wrong, under-two, over-twenty, layered}
+use Rattle.register.proofs.ReadCases.{layers-wrong, content-wrong, under-two, over-twenty, layered}
 use borrow.Author.Needs.{needs}
 use Rattle.register.proofs.reading.read_contents.Statement.{statement}
 use Rattle.register.proofs.reading.read_contents.Tie as tie

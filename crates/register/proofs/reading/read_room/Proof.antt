@@ -2,7 +2,7 @@
 use Prim.Native.Nat.{_*_, _-_}
 use native.Mathlib.Omega.{arith}
 use lib.ListN.{length}
-use Rattle.register.proofs.AnswerLaws.{no-room, steps-long, from-end, coords-few, layers-long, enough, short-three, short-two, long-three, long-two}
+use Rattle.register.proofs.ReadCases.{no-room, steps-long, from-end, coords-few, layers-long, enough, short-three, short-two, long-three, long-two}
 use borrow.Author.Needs.{needs}
 use Rattle.register.proofs.reading.read_room.Statement.{statement}
 use Rattle.register.proofs.reading.read_room.Tie as tie

@@ -2,7 +2,7 @@
 use mathlib.Core.Path.{sym, ap, _∙_}
 use native.Mathlib.Omega.{arith}
 use lib.ListN.{length}
-use Rattle.register.proofs.AnswerLaws.{judged-coords, stack-wrong, coords-few, layers-few, coords-by, stack-told, stack-accepted}
+use Rattle.register.proofs.ReadCases.{judged-coords, stack-wrong, coords-few, layers-few, coords-by, stack-told, stack-accepted}
 use borrow.Author.Needs.{needs}
 use Rattle.register.proofs.reading.read_stack.Statement.{statement}
 use Rattle.register.proofs.reading.read_stack.Tie as tie

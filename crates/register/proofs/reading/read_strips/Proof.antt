@@ -1,6 +1,6 @@
 -- `register::reading::read_strips` meets its contract: the strips are judged where they stand, and then all is filled. Assumes nothing.
 use native.Mathlib.Omega.{arith}
-use Rattle.register.proofs.AnswerLaws.{strips-wrong, all-read, steps-long, from-end, end-inside, layers-long, strips-told, strips-accepted, points-half}
+use Rattle.register.proofs.ReadCases.{strips-wrong, all-read, steps-long, from-end, end-inside, layers-long, strips-told, strips-accepted, points-half}
 use borrow.Author.Needs.{needs}
 use Rattle.register.proofs.reading.read_strips.Statement.{statement}
 use Rattle.register.proofs.reading.read_strips.Tie as tie

@@ -1,4 +1,4 @@
--- `register::filling::put_numbers` meets its contract, by the invariant `FrontSo`. Assumes nothing.
+-- `register::fronts::put_numbers` meets its contract, by the invariant `FrontSo`. Assumes nothing.
 use mathlib.Core.Path.{sym, ap, _∙_}
 use Prim.Native.Nat.{_*_, _-_}
 use native.Mathlib.Omega.{arith}
@@ -8,10 +8,10 @@ use lib.Seq.{drop-drop}
 use mir.Syntax.{w32}
 use Rattle.whole.proofs.Machine.{returned}
 use Rattle.register.specs.Decoding.{number, numbers}
-use Rattle.register.proofs.CodeLaws.{numbers-long, numbers-at}
+use Rattle.register.proofs.DecodeLaws.{numbers-long, numbers-at}
 use Rattle.register.proofs.FrontLaws.{FrontSo, front-begun, front-more, front-done}
-use Rattle.register.proofs.filling.put_numbers.Statement.{statement}
-use Rattle.register.proofs.filling.put_numbers.Tie as tie
+use Rattle.register.proofs.fronts.put_numbers.Statement.{statement}
+use Rattle.register.proofs.fronts.put_numbers.Tie as tie
 
 abbrev Inv-loop : tie.InvT-loop
 Inv-loop contents at many out₀ k₀ out k = FrontSo (numbers many (drop at contents)) k out₀ out

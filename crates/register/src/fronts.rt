@@ -5,7 +5,7 @@ ghost use lib.ListN.{length, drop};
 ghost use Rattle.stack.specs.declared.Layer.{Layer};
 ghost use Rattle.stack.specs.Laid.{laid};
 ghost use Rattle.register.specs.Decoding.{numbers, coordsFrom};
-ghost use Rattle.register.specs.Filling.{Front};
+ghost use Rattle.register.specs.Fronts.{Front};
 use crate::decoding::layer_here;
 use crate::decoding::number_at;
 use stack::Stack;

@@ -36,7 +36,7 @@ use Rattle.register.specs.declared.judging.Extent.{Extent}
 use Rattle.register.specs.Stored.{Stored, layersIn, LayersIn, ContentFault}
 use Rattle.register.specs.Decoding.{twoOf, layersFrom, coordsFrom, layersOf, coordsOf, stripsOf, StoredHere}
 use Rattle.register.specs.Reading.{Lent, lent, EnoughFor, filled, ReadAnswer, blocks, layers, content, stack, room, strips, whole}
-use Rattle.register.specs.Filling.{Front}
+use Rattle.register.specs.Fronts.{Front}
 use Rattle.register.specs.Answering.{contentsEnd, Layered, Ready, ReadFrom, blocksRefusal}
 use Rattle.stack.specs.Gathered.{Gathers}
 use Rattle.register.proofs.StoredLaws.{layers-in-two, stored-ended}

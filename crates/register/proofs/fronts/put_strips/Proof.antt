@@ -1,11 +1,11 @@
--- `register::filling::put_strips` meets its contract, by the invariant `FrontSo`. Assumes nothing.
+-- `register::fronts::put_strips` meets its contract, by the invariant `FrontSo`. Assumes nothing.
 use mathlib.Core.Path.{refl}
 use Prim.Native.Nat.{_-_}
 use native.Mathlib.Omega.{arith}
 use lib.ListN.{length}
 use Rattle.register.proofs.FrontLaws.{FrontSo, front-begun, front-more, front-done}
-use Rattle.register.proofs.filling.put_strips.Statement.{statement}
-use Rattle.register.proofs.filling.put_strips.Tie as tie
+use Rattle.register.proofs.fronts.put_strips.Statement.{statement}
+use Rattle.register.proofs.fronts.put_strips.Tie as tie
 
 abbrev Inv-loop : tie.InvT-loop
 Inv-loop strips out₀ k₀ out k = FrontSo strips k out₀ out

@@ -1,4 +1,4 @@
--- `register::filling::put_planes` meets its contract, by the invariant `FrontSo`. Assumes nothing.
+-- `register::fronts::put_planes` meets its contract, by the invariant `FrontSo`. Assumes nothing.
 use mathlib.Core.Path.{_≡_, refl, _∙_}
 use mathlib.Core.List.{map}
 use Prim.Native.Nat.{_-_}
@@ -12,8 +12,8 @@ use Rattle.stack.specs.declared.Layer.{Layer}
 use Rattle.stack.specs.Laid.{laid}
 use Rattle.stack.proofs.Laying.{laid-long}
 use Rattle.register.proofs.FrontLaws.{FrontSo, front-begun, front-more, front-done, field-at}
-use Rattle.register.proofs.filling.put_planes.Statement.{statement}
-use Rattle.register.proofs.filling.put_planes.Tie as tie
+use Rattle.register.proofs.fronts.put_planes.Statement.{statement}
+use Rattle.register.proofs.fronts.put_planes.Tie as tie
 
 abbrev Inv-loop : tie.InvT-loop
 Inv-loop stack out₀ layers k₀ out k = FrontSo (map (λ (e : Layer). e .plane) (laid stack)) k out₀ out × (layers ≡ stack .layers)

@@ -16,7 +16,7 @@ use Rattle.blocks.specs.Blocks.{two}
 use Rattle.register.specs.Contents.{four, fours, layerBytes, layersBytes}
 use Rattle.register.specs.Stored.{InWord}
 use Rattle.register.specs.Decoding.{twoOf, number, numbers, countHere, layerHere, past, layersFrom, coordsFrom, wide}
-use Rattle.register.proofs.CodeLaws.{Bytes, Words, bytes-drop, words-part, number-read, two-read, four-long, number-word, two-of-small, number-write, two-write, fours-long, numbers-long, zero-word, numbers-word, fours-read, fours-write}
+use Rattle.register.proofs.DecodeLaws.{Bytes, Words, bytes-drop, words-part, number-read, two-read, four-long, number-word, two-of-small, number-write, two-write, fours-long, numbers-long, zero-word, numbers-word, fours-read, fours-write}
 
 -- ---- layers one after another
 

@@ -1,4 +1,4 @@
--- `register::filling::put_coords` meets its contract, by the invariant `CoordsSo`. Assumes nothing.
+-- `register::fronts::put_coords` meets its contract, by the invariant `CoordsSo`. Assumes nothing.
 use mathlib.Core.Path.{_≡_, ap}
 use Prim.Native.Nat.{_+_, _*_, _-_, _≤_}
 use native.Mathlib.Omega.{arith}
@@ -6,8 +6,8 @@ use lib.ListN.{length, drop, length-take, length-drop}
 use Rattle.stack.specs.declared.Layer.{Layer}
 use Rattle.register.specs.Decoding.{countHere, placeOf}
 use Rattle.register.proofs.FrontLaws.{CoordsSo, coords-begun, coords-room, coords-more, coords-done}
-use Rattle.register.proofs.filling.put_coords.Statement.{statement}
-use Rattle.register.proofs.filling.put_coords.Tie as tie
+use Rattle.register.proofs.fronts.put_coords.Statement.{statement}
+use Rattle.register.proofs.fronts.put_coords.Tie as tie
 
 abbrev Inv-loop : tie.InvT-loop
 Inv-loop contents layers out₀ first₀ k₀ out first k = CoordsSo contents layers k first out₀ out
