@@ -1,3 +1,4 @@
 -- Laws of gathering.
 mod GatherLaws
 mod Gathered
+mod ScatterLaws

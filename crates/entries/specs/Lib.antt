@@ -1,2 +1,3 @@
 -- Entries, gathered one by one from a lent slice.
 pub mod Gathering
+pub mod Scattered

@@ -12,6 +12,7 @@ ghost use Rattle.stack.specs.Strips.{StripsAnswered};
 ghost use Rattle.bands.specs.Bands.{BandsAnswer};
 ghost use Rattle.mesh.specs.Meshing.{Measured, Triangled};
 ghost use Rattle.entries.specs.Gathering.{Gathering};
+ghost use Rattle.entries.specs.Scattered.{written, scattered};
 use bands::Banded;
 use mesh::Meshed;
 use mesh::Volumed;
@@ -19,6 +20,7 @@ use stack::Layer;
 use stack::Stack;
 use stack::StackJudgement;
 use stack::StripsJudgement;
+use stack::layer_at;
 
 // The first 20 entries, field by field, and how many there are.
 pub fn gather(layers: &[Layer]) -> Stack
@@ -68,6 +70,25 @@ fn up_to_20(n: usize) -> usize
     ensures { λ r. ⌜ r ≡ min n 20 ⌝ }
 {
     if n < 20 { n } else { 20 }
+}
+
+// The entries of a stack, at the front of the slice, as many as are handed in and fit; the rest of it is as before.
+pub fn scatter(layers: &mut [Layer], stack: Stack)
+    ensures { λ _. ⌜ now (layers .exit) ≡ scattered stack (now (layers .entry)) ⌝ }
+{
+    let end = written_of(stack, layers.len());
+    let mut k = 0;
+    while k < end {
+        layers[k] = layer_at(stack, k);
+        k += 1;
+    }
+}
+
+fn written_of(stack: Stack, room: usize) -> usize
+    ensures { λ r. ⌜ r ≡ written stack room ⌝ }
+{
+    let n = up_to_20(stack.layers);
+    if n < room { n } else { room }
 }
 
 // Takes every list of entries and every list of coordinates.
