@@ -32,6 +32,8 @@ use Rattle.stack.specs.Gathered.{Gathers}
 use Rattle.stack.proofs.Layer as Ly
 use Rattle.stack.proofs.Stack as St
 use Rattle.stack.proofs.Stack.Laws as St′
+use Rattle.entries.specs.Gathering.{gathered}
+use Rattle.entries.proofs.GatherLaws.{gathered-gathers}
 use Rattle.entries.proofs.gather as gather
 use Rattle.entries.proofs.gather.Symbol.{name as #entries·gather}
 
@@ -64,8 +66,8 @@ module _ {M : Type 1} {𝓤 : URA M} {H : Heap 𝓤} {A : Atoms 𝓤} (W : Given
   asked : ent 𝓤 (⋆ 𝓤 H A (‵ (flft κ q) ∷ ‵ (Lent κ x) ∷ [])) (Gather 𝓤 H A mem run .pre (to-gather 𝓤 H A mem run κ q x))
   asked = qed W (‵ (flft κ q) ∷ ‵ (Lent κ x) ∷ []) ∵ nothing ! $ move ! (2 ∷ 0 ∷ []) $ fjoin ! $ nothing ! $ move ! (2 ∷ 0 ∷ []) $ join ! $ join ! $ frame ! $ done !
 
-  said : (st : Stack) → ent 𝓤 (ensured 𝓤 H A gather.ended (gather.clauses 𝓤 H A mem run) (κ, tt) (x, tt) tt st) (fact 𝓤 (Gathers st (x .now)))
-  said st = exE 𝓤 _ (λ ws. snd∗ 𝓤 (sem 𝓤 H A (lasts gather.ended (κ, tt) (x, tt) ws)) (fact 𝓤 (Gathers st (x .now))))
+  said : (st : Stack) → ent 𝓤 (ensured 𝓤 H A gather.ended (gather.clauses 𝓤 H A mem run) (κ, tt) (x, tt) tt st) (fact 𝓤 (st ≡ gathered (x .now)))
+  said st = exE 𝓤 _ (λ ws. snd∗ 𝓤 (sem 𝓤 H A (lasts gather.ended (κ, tt) (x, tt) ws)) (fact 𝓤 (st ≡ gathered (x .now))))
 
   pub gathers : {C : Calls 𝓤 H} {Λ : Loops 𝓤 H} {E : Env 𝓤 H} {p : Post 𝓤 H} {d : Place} {xs : List Operand} {rest : Body} {Γ : List (Item 𝓤)}
       → FmC 𝓤 H (W .laws) C → Triple 𝓤 (C #entries·gather) (Gather 𝓤 H A mem run)
@@ -77,8 +79,8 @@ module _ {M : Type 1} {𝓤 : URA M} {H : Heap 𝓤} {A : Atoms 𝓤} (W : Given
       use2 W (raw (Gather 𝓤 H A mem run .pre (to-gather 𝓤 H A mem run κ q x))) asked $
       calls-at ! fm (Gather 𝓤 H A mem run) known (to-gather 𝓤 H A mem run κ q x) passed (λ u.
       use1 W (later (some (λ (st : Stack). ((‵ (flft κ q) ⊛ ‵ ftrue) ⊛ ‵ (St.the-row .own st (u ∷ []))) ⊛ raw (ensured 𝓤 H A gather.ended (gather.clauses 𝓤 H A mem run) (κ, tt) (x, tt) tt st)))) (id⊢ 𝓤 _) $ await ! tt $ pick ! (λ st.
-      split ! $ move ! (1 ∷ []) $ use1 W (raw (fact 𝓤 (Gathers st (x .now)))) (said st) $ heard ! (Gathers st (x .now)) (λ g. split ! $ split ! $ move ! (2 ∷ []) $
+      split ! $ move ! (1 ∷ []) $ use1 W (raw (fact 𝓤 (st ≡ gathered (x .now)))) (said st) $ heard ! (st ≡ gathered (x .now)) (λ g. split ! $ split ! $ move ! (2 ∷ []) $
       -- [the result; the token; true; what the slice owns; the rest]
       peeks ! St.the-row (Is St.the-row) (shows 𝓤 H A St.the-row) st (u ∷ []) (λ is. drop ! $ move ! (1 ∷ []) $ drop ! $
       subst (λ (w : Val). Sq W (‵ (flft κ q) ∷ ‵ (Lent κ x) ∷ Γ) (lands C Λ E d w rest p)) (sym (ap only (LL.tells St.the-type St′.the-laws st (u ∷ []) is)))
-      (k st (subst (Is St.the-row st) (LL.tells St.the-type St′.the-laws st (u ∷ []) is) is) g)))))
+      (k st (subst (Is St.the-row st) (LL.tells St.the-type St′.the-laws st (u ∷ []) is) is) (subst (λ (r : Stack). Gathers r (x .now)) (sym g) (gathered-gathers (x .now))))))))

@@ -6,12 +6,11 @@ ghost use lib.ListN.{length};
 ghost use Rattle.stack.specs.declared.Layer.{Layer};
 ghost use Rattle.stack.specs.declared.Stack.{Stack};
 ghost use Rattle.stack.specs.Entries.{entry};
-ghost use Rattle.stack.specs.Gathered.{Gathers};
 ghost use Rattle.stack.specs.Faults.{StackJudged};
 ghost use Rattle.stack.specs.Strips.{StripsAnswered};
 ghost use Rattle.bands.specs.Bands.{BandsAnswer};
 ghost use Rattle.mesh.specs.Meshing.{Measured, Triangled};
-ghost use Rattle.entries.specs.Gathering.{Gathering};
+ghost use Rattle.entries.specs.Gathering.{gathered, Gathering};
 ghost use Rattle.entries.specs.Scattered.{written, scattered};
 use bands::Banded;
 use mesh::Meshed;
@@ -24,7 +23,7 @@ use stack::layer_at;
 
 // The first 20 entries, field by field, and how many there are.
 pub fn gather(layers: &[Layer]) -> Stack
-    ensures { λ r. ⌜ Gathers r (now (layers .entry)) ⌝ }
+    ensures { λ r. ⌜ r ≡ gathered (now (layers .entry)) ⌝ }
 {
     let end = up_to_20(layers.len());
     let mut stack = no_layers(layers.len());

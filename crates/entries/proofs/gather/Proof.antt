@@ -48,12 +48,11 @@ use denote.Triple.Clauses.{ensured, lasts}
 use denote.Exit.{yes}
 use Rattle.stack.specs.declared.Layer.{Layer}
 use Rattle.stack.specs.declared.Stack.{Stack}
-use Rattle.stack.specs.Gathered.{Gathers}
 use Rattle.stack.proofs.Layer as Ly
 use Rattle.stack.proofs.Layer.Laws as Ly′
 use Rattle.stack.proofs.Stack as St
 use Rattle.stack.proofs.Stack.Laws as St′
-use Rattle.entries.specs.Gathering.{Gathering}
+use Rattle.entries.specs.Gathering.{gathered, Gathering}
 use Rattle.entries.proofs.GatherLaws.{all-in}
 use Rattle.entries.proofs.put as put
 use Rattle.entries.proofs.put.Symbol as put-def
@@ -147,7 +146,7 @@ module _ {M : Type 1} (𝓤 : URA M) (H : Heap 𝓤) (A : Atoms 𝓤) (W : Given
   abbrev Own : Fml
   Own = ShrSlice (named 0) κ Ly.the-row .own x (v ∷ [])
 
-  exits : (st : Stack) → Is St.the-row st (stack-val st ∷ []) → Gathers st ys → ent 𝓤 (⋆ 𝓤 H A (‵ Own ∷ ‵ (flft κ q) ∷ [])) (Post (stack-val st))
+  exits : (st : Stack) → Is St.the-row st (stack-val st ∷ []) → st ≡ gathered ys → ent 𝓤 (⋆ 𝓤 H A (‵ Own ∷ ‵ (flft κ q) ∷ [])) (Post (stack-val st))
   exits st is g =
       qed W (‵ Own ∷ ‵ (flft κ q) ∷ []) ∵
       suffices ! _ (ends-at 𝓤 H A gather.ended stayed (gather.clauses 𝓤 H A mem run) W (((κ, tt), (q, tt), tt, (x, tt), at), tt) (stack-val st) st (tt, tt) (tt, tt)) $ says ! g $
