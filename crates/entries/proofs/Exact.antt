@@ -3,7 +3,7 @@
 -- Assumes nothing.
 use mathlib.Core.Path.{_≡_, refl, sym, ap, ap₂, _∙_}
 use mathlib.Core.List.{List, _++_}
-use Prim.Native.Nat.{ℕ, _≤_, min}
+use Prim.Native.Nat.{ℕ, _≤_}
 use native.Mathlib.Omega.{arith}
 use lib.IntN.{ℤ}
 use lib.ListN.{length, take, drop}
@@ -51,9 +51,6 @@ module _ (es : List Layer) where
   pub gathered-scattered : (old : List Layer) → length es ≤ 20 → length es ≤ length old → scattered (gathered es) old ≡ es ++ drop (length es) old
   unfolding scattered gathered
   gathered-scattered old few room =
-      let n : written (gathered es) (length old) ≡ length es = least (length es) (length old) few room in
+      let n : written (gathered es) (length old) ≡ length es = omega (arith, few, room) in
       ap₂ (λ (l : List Layer) (k : ℕ). take k l ++ drop k old) (sym (laid-only (gathered es) es few (gathered-gathers es))) n
       ∙ ap (λ (l : List Layer). l ++ drop (length es) old) (take-length es)
-    where
-      least : (m n : ℕ) → m ≤ 20 → m ≤ n → min (min m 20) n ≡ m
-      least m n h r = omega arith
