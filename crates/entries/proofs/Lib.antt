@@ -1,5 +1,7 @@
--- What holds of the entry points (Exact), the laws of gathering and scattering, and the call of `gather` in a walk.
+-- What holds of the entry points (Exact), the laws of gathering and scattering, what the walks by hand share, and the call of `gather` in
+-- a walk.
 pub mod Exact
 mod GatherLaws
-mod Gathered
 mod ScatterLaws
+mod Walking
+mod Gathered

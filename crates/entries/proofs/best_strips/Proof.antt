@@ -54,7 +54,8 @@ use Rattle.bands.proofs.best_strips as bands
 use Rattle.bands.proofs.best_strips.Symbol as bands-def
 use Rattle.bands.proofs.best_strips.Symbol.{name as #bands·best-strips}
 use Rattle.bands.proofs.best_strips.Met as bands-thm
-use Rattle.entries.proofs.Gathered.{stack-val, Lent, Gather, gathers}
+use Rattle.entries.proofs.Walking.{stack-val}
+use Rattle.entries.proofs.Gathered.{Lent, Gather, gathers}
 use Rattle.entries.proofs.gather.Symbol as gather-def
 use Rattle.entries.proofs.gather.Symbol.{name as #entries·gather}
 use Rattle.entries.proofs.gather.Met as gather-thm

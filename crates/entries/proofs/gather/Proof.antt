@@ -23,7 +23,7 @@ use prog.Wp.{Heap, Out, Env, afterSeq, afterBlock, afterTurn, Calls, Loops, Wp, 
 use ghost.Atoms.{Atoms, sem}
 use contract.Monad.{Fun, fact}
 use contract.Running.{givenOf, tables, tablesOf}
-use types.Kit.{Given, Item, ‵, raw, _⊛_, ⋆, some, later, anyQ, atRet, _$_, _∵_, !, qed, by, move, keep, drop, use0, use1, use2, split, join, pick, rewrite, fsplit, fjoin, suffices, frame, await, done}
+use types.Kit.{Given, Item, Sq, runs, ‵, raw, _⊛_, ⋆, some, later, anyQ, atRet, _$_, _∵_, !, qed, by, move, keep, drop, use0, use1, use2, split, join, pick, rewrite, fsplit, fjoin, suffices, frame, await, done}
 use types.Part.{whole, sub, look-in}
 use types.Run.{look, store, init, forget, stop, fld, from, load, lit, of-opd, bin, and-then, no-more, assigns, assigns-last, stays, leaves-loop, land, returns, enter, alloc1, alloc0, params1, pass1, pass0, free1, free0, exec}
 use sound.Loop.{loop-rule}
@@ -53,6 +53,7 @@ use Rattle.stack.proofs.Layer.Laws as Ly′
 use Rattle.stack.proofs.Stack as St
 use Rattle.stack.proofs.Stack.Laws as St′
 use Rattle.entries.specs.Gathering.{gathered, Gathering}
+use Rattle.entries.proofs.Walking.{stack-val, holds, fails, before, left, at-end, not-before, up-fits}
 use Rattle.entries.proofs.GatherLaws.{all-in}
 use Rattle.entries.proofs.put as put
 use Rattle.entries.proofs.put.Symbol as put-def
@@ -75,46 +76,20 @@ use Rattle.entries.proofs.gather.Code.Mir as mir
 abbrev stayed : Stays (gather.ended .signature .params) (gather.ended .kept)
 stayed = (stay-none-slice (0 ∷ []) tt (plain (λ _. Ly.the-row)) yes, tt)
 
-abbrev stack-val : Stack → Val
-stack-val = LL.val St.the-type St′.the-laws
-
 abbrev word : Ty
 word = tyInt w64
 
 abbrev slice : Ty
 slice = sliceTy (tyRef (named 0) imm (pointee (Ly.the-row .written)))
 
-holds : (t : Bool) → T t → t ≡ true
-holds true _ = refl
-holds false a = absurd a
-
-fails : (t : Bool) → (T t → ⊥) → t ≡ false
-fails true f = absurd (f tt)
-fails false _ = refl
-
 one-up : (k : ℕ) → k + 1 ≡ suc k
 one-up k = omega arith
-
-up-fits : (k m : ℕ) → k < m → m < 2 ^ 64 → k + 1 < 2 ^ 64
-up-fits k m l r = omega arith
 
 in-list : (k m n : ℕ) → m ≡ min n 20 → k < m → k < n
 in-list k m n e l = omega arith
 
 in-twenty : (k m n : ℕ) → m ≡ min n 20 → k < m → k < 20
 in-twenty k m n e l = omega arith
-
-before : (k t m : ℕ) → k + suc t ≡ m → k < m
-before k t m e = omega arith
-
-left : (k t m : ℕ) → k + suc t ≡ m → suc k + t ≡ m
-left k t m e = omega arith
-
-at-end : (k m : ℕ) → k + 0 ≡ m → k ≡ m
-at-end k m e = omega arith
-
-not-before : (k m : ℕ) → k ≡ m → k < m → ⊥
-not-before k m e l = omega arith
 
 module _ {M : Type 1} (𝓤 : URA M) (H : Heap 𝓤) (A : Atoms 𝓤) (mem : Memory → SProp 𝓤) (run : Routine → Fun 𝓤) where
   -- the contracts that the proof cites
@@ -282,7 +257,7 @@ module _ {M : Type 1} (𝓤 : URA M) (H : Heap 𝓤) (A : Atoms 𝓤) (W : Given
     turn-at : (t k : ℕ) (st : Stack) → Facts t k st → ent 𝓤 (⋆ 𝓤 H A (At k st)) (Wp 𝓤 H C Λ En mir.turn-1 (afterTurn 𝓤 H (Below t) Left))
     turn-at zero k st f = ends k st (Below zero) (at-end k m (f .sum)) (f .is) (f .held)
     turn-at (suc t) k st f = more k st (Below (suc t)) (before k t m (f .sum)) (f .is) (f .held) (λ r ir g.
-        via 𝓤 (Inv t) (shown t (suc k) r (record { sum = left k t m (f .sum); is = ir; held = g }))
+        via 𝓤 (Inv t) (shown t (suc k) r (record { sum = ap (λ (j : ℕ). j + t) (sym (one-up k)) ∙ left k t m (f .sum); is = ir; held = g }))
         (via 𝓤 (guard 𝓤 (t < suc t) (Inv t)) (guardI 𝓤 (t < suc t) (Inv t) (lt-suc-self t)) (exI 𝓤 (λ (u : ℕ). guard 𝓤 (u < suc t) (Inv u)) t)))
 
     turns : (t : ℕ) → ent 𝓤 (Inv t) (Wp 𝓤 H C Λ En mir.turn-1 (afterTurn 𝓤 H (Below t) Left))
@@ -293,6 +268,10 @@ module _ {M : Type 1} (𝓤 : URA M) (H : Heap 𝓤) (A : Atoms 𝓤) (W : Given
     loops st is g =
         via 𝓤 (Inv m) (shown m 0 st (record { sum = omega arith; is = is; held = g }))
         (loop-rule 𝓤 H (W .laws) 𝓣 _<_ (Nat·lt-wfRel .wf) En mir.turn-1 Left Inv turns m)
+
+    -- the same as a part of the walk
+    looped : (st : Stack) → Is St.the-row st (stack-val st ∷ []) → Gathering st ys 0 → Sq W (At 0 st) (runs C Λ En mir.t-6 (atRet En Post))
+    looped st is g = record { prf = loops st is g }
 
   -- the MIR, up to the loop
   walk : (𝓣 : Tables 𝓤 H) → Triple 𝓤 (𝓣 .C #entries·put) (Put 𝓤 H A mem run) → Triple 𝓤 (𝓣 .C #entries·no-layers) (None 𝓤 H A mem run) → Triple 𝓤 (𝓣 .C #entries·up-to-20) (Few 𝓤 H A mem run)
@@ -321,7 +300,7 @@ module _ {M : Type 1} (𝓤 : URA M) (H : Heap 𝓤) (A : Atoms 𝓤) (W : Given
       assigns ! (of-opd ! (lit ! tt)) (from ! (stop !)) (init ! 4 refl (tt, record { fits = lit< tt })) $
       forget ! 2 refl $ move ! (15 ∷ []) $ fsplit ! $ move ! (16 ∷ []) $ split ! $
       keep ! (10 ∷ 8 ∷ 6 ∷ 4 ∷ 2 ∷ 0 ∷ 14 ∷ 12 ∷ 16 ∷ 17 ∷ 15 ∷ 13 ∷ 11 ∷ 9 ∷ 7 ∷ 5 ∷ []) $
-      by ! (loops 𝓣 known-put m em (im .1) l₀ l₁ l₂ l₃ l₄ l₅ l₆ st (subst (Is St.the-row st) (LL.tells St.the-type St′.the-laws st (w ∷ []) is) is) (g ys refl)))))))))))))))))
+      looped 𝓣 known-put m em (im .1) l₀ l₁ l₂ l₃ l₄ l₅ l₆ st (subst (Is St.the-row st) (LL.tells St.the-type St′.the-laws st (w ∷ []) is) is) (g ys refl))))))))))))))))
 
 module _ {M : Type 1} (𝓤 : URA M) (H : Heap 𝓤) (A : Atoms 𝓤) (W : Given 𝓤 H A) (mem : Memory → SProp 𝓤) (run : Routine → Fun 𝓤) where
   gather-walks : (𝓣 : Tables 𝓤 H) → Triple 𝓤 (𝓣 .C #entries·put) (Put 𝓤 H A mem run) → Triple 𝓤 (𝓣 .C #entries·no-layers) (None 𝓤 H A mem run) → Triple 𝓤 (𝓣 .C #entries·up-to-20) (Few 𝓤 H A mem run)

@@ -51,7 +51,8 @@ use Rattle.stack.proofs.judge_stack as judge
 use Rattle.stack.proofs.judge_stack.Symbol as judge-def
 use Rattle.stack.proofs.judge_stack.Symbol.{name as #stack·judge-stack}
 use Rattle.stack.proofs.judge_stack.Met as judge-thm
-use Rattle.entries.proofs.Gathered.{stack-val, Lent, Gather, gathers}
+use Rattle.entries.proofs.Walking.{stack-val}
+use Rattle.entries.proofs.Gathered.{Lent, Gather, gathers}
 use Rattle.entries.proofs.gather.Symbol as gather-def
 use Rattle.entries.proofs.gather.Symbol.{name as #entries·gather}
 use Rattle.entries.proofs.gather.Met as gather-thm

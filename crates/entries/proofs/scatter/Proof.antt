@@ -63,6 +63,7 @@ use Rattle.stack.proofs.layer_at.Symbol as layer-def
 use Rattle.stack.proofs.layer_at.Symbol.{name as #stack·layer-at}
 use Rattle.stack.proofs.layer_at.Met as layer-thm
 use Rattle.entries.specs.Scattered.{written, scattered}
+use Rattle.entries.proofs.Walking.{layer-val, stack-val, holds, fails, before, left, at-end, not-before, up-fits, place-fits}
 use Rattle.entries.proofs.ScatterLaws.{scatter-begun, scatter-inside, scatter-more, scatter-done}
 use Rattle.entries.proofs.written_of as few
 use Rattle.entries.proofs.written_of.Symbol as few-def
@@ -77,43 +78,11 @@ use Rattle.entries.proofs.scatter.Code.Mir as mir
 abbrev stayed : Stays (scatter.ended .signature .params) (scatter.ended .kept)
 stayed = (stay-slice (0 ∷ []) tt (plain (λ _. Ly.the-row)), (stay-none (λ _. St.the-row) yes, tt))
 
-abbrev layer-val : Layer → Val
-layer-val = LL.val Ly.the-type Ly′.the-laws
-
-abbrev stack-val : Stack → Val
-stack-val = LL.val St.the-type St′.the-laws
-
 abbrev word : Ty
 word = tyInt w64
 
 abbrev slice : Ty
 slice = sliceTy (tyRef (named 0) mut (pointee (Ly.the-row .written)))
-
-holds : (t : Bool) → T t → t ≡ true
-holds true _ = refl
-holds false a = absurd a
-
-fails : (t : Bool) → (T t → ⊥) → t ≡ false
-fails true f = absurd (f tt)
-fails false _ = refl
-
-up-fits : (k m : ℕ) → k < m → m < 2 ^ 64 → k + 1 < 2 ^ 64
-up-fits k m l r = omega arith
-
-place-fits : (k n l : ℕ) → k < l → l ≡ n → n * 24 < 2 ^ 63 → k * 24 < 2 ^ 64
-place-fits k n l h e r = omega arith
-
-before : (k t m : ℕ) → k + suc t ≡ m → k < m
-before k t m e = omega arith
-
-left : (k t m : ℕ) → k + suc t ≡ m → k + 1 + t ≡ m
-left k t m e = omega arith
-
-at-end : (k m : ℕ) → k + 0 ≡ m → k ≡ m
-at-end k m e = omega arith
-
-not-before : (k m : ℕ) → k ≡ m → k < m → ⊥
-not-before k m e l = omega arith
 
 module _ {M : Type 1} (𝓤 : URA M) (H : Heap 𝓤) (A : Atoms 𝓤) (mem : Memory → SProp 𝓤) (run : Routine → Fun 𝓤) where
   -- the contracts that the proof cites
@@ -228,7 +197,7 @@ module _ {M : Type 1} (𝓤 : URA M) (H : Heap 𝓤) (A : Atoms 𝓤) (W : Given
         peeks ! Ly.the-row (Is Ly.the-row) (shows 𝓤 H A Ly.the-row) e (u ∷ []) (λ ie.
         land ! (from ! (stop !)) (init ! 5 refl (LL.lawful Ly.the-type Ly′.the-laws 𝓤 H A W .typed e _ ie .0)) $
         rewrite ! 5 (λ (w : Val). ‵ (fat fullShare Ly′.mir l₇ 0 w)) (ap only (LL.tells Ly.the-type Ly′.the-laws e (u ∷ []) ie)) refl $ drop ! $ drop ! $
-        assigns ! (bin ! (load ! (from ! (stop !)) (look ! 1 refl)) (lit ! tt) (record { fits = place-fits k n (length zs) inside long (gn .1) })) (from ! (stop !)) (init ! 4 refl (tt, record { fits = place-fits k n (length zs) inside long (gn .1) })) $
+        assigns ! (bin ! (load ! (from ! (stop !)) (look ! 1 refl)) (lit ! tt) (record { fits = fits-place })) (from ! (stop !)) (init ! 4 refl (tt, record { fits = fits-place })) $
         assigns ! (bin ! (load ! (from ! (fld ! refl (stop !))) (look-in ! 11 (sub ! 0 refl (whole !)))) (load ! (from ! (stop !)) (look ! 4 refl)) tt) (from ! (stop !)) (init ! 5 refl (tt, tt)) $
         rewrite ! 5 (λ (p : ℕ). ‵ (fat fullShare tyPtr l₉ 0 (vptr b p))) (sym (place-is 24 o k)) refl $
         elem-out ! Ly.the-row (Is Ly.the-row) (shows 𝓤 H A Ly.the-row) (LL.vals Ly.the-type Ly′.the-laws) (LL.tells Ly.the-type Ly′.the-laws) fullShare zs k noLayer b o inside (λ _.
@@ -242,6 +211,9 @@ module _ {M : Type 1} (𝓤 : URA M) (H : Heap 𝓤) (A : Atoms 𝓤) (W : Given
       where
         fits : k < 2 ^ 64
         fits = omega (arith, small, fm)
+
+        fits-place : k * 24 < 2 ^ 64
+        fits-place = place-fits k n (subst (λ (j : ℕ). k < j) long inside) (gn .1)
 
         made : (e : Layer) (u : Val) → Is Ly.the-row e (u ∷ []) → Is Ly.the-row e (layer-val e ∷ [])
         made e u ie = subst (Is Ly.the-row e) (LL.tells Ly.the-type Ly′.the-laws e (u ∷ []) ie) ie

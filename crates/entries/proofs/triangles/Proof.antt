@@ -54,7 +54,8 @@ use Rattle.mesh.proofs.triangles as triangles
 use Rattle.mesh.proofs.triangles.Symbol as triangles-def
 use Rattle.mesh.proofs.triangles.Symbol.{name as #mesh·triangles}
 use Rattle.mesh.proofs.triangles.Met as triangles-thm
-use Rattle.entries.proofs.Gathered.{stack-val, Lent, Gather, gathers}
+use Rattle.entries.proofs.Walking.{stack-val}
+use Rattle.entries.proofs.Gathered.{Lent, Gather, gathers}
 use Rattle.entries.proofs.gather.Symbol as gather-def
 use Rattle.entries.proofs.gather.Symbol.{name as #entries·gather}
 use Rattle.entries.proofs.gather.Met as gather-thm

@@ -52,7 +52,8 @@ use Rattle.mesh.proofs.volume as volume
 use Rattle.mesh.proofs.volume.Symbol as volume-def
 use Rattle.mesh.proofs.volume.Symbol.{name as #mesh·volume}
 use Rattle.mesh.proofs.volume.Met as volume-thm
-use Rattle.entries.proofs.Gathered.{stack-val, Lent, Gather, gathers, both-twice, nothing-twice}
+use Rattle.entries.proofs.Walking.{stack-val, Twice, both-twice, nothing-twice}
+use Rattle.entries.proofs.Gathered.{Lent, Gather, gathers}
 use Rattle.entries.proofs.gather.Symbol as gather-def
 use Rattle.entries.proofs.gather.Symbol.{name as #entries·gather}
 use Rattle.entries.proofs.gather.Met as gather-thm
@@ -97,7 +98,7 @@ module _ {M : Type 1} (𝓤 : URA M) (H : Heap 𝓤) (A : Atoms 𝓤) (W : Given
   abbrev Toks : Item 𝓤
   Toks = ‵ (flft κ′ q′) ⊛ ‵ (flft κ″ q″) ⊛ ‵ ftrue
 
-  twice : ent 𝓤 (sem 𝓤 H A Rest) (sep 𝓤 (sem 𝓤 H A Rest) (sem 𝓤 H A Rest))
+  twice : Twice W Rest
   twice = both-twice W (ShrSlice (named 1) κ′ i32 .own c (v′ ∷ [])) (fsep (ShrSlice (named 2) κ″ u8 .own s (v″ ∷ [])) ftrue) (shr-slice-copy 𝓤 H A W (named 1) κ′ i32 .twice c (v′ ∷ []))
       (both-twice W (ShrSlice (named 2) κ″ u8 .own s (v″ ∷ [])) ftrue (shr-slice-copy 𝓤 H A W (named 2) κ″ u8 .twice s (v″ ∷ [])) (nothing-twice W))
 
