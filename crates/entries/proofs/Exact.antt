@@ -1,7 +1,7 @@
 -- Over the entries of a lent slice each contract leaves one answer for each input, and one content of what is lent: the theorems of the
 -- crates below, at the entries. `gather` and `scatter` say their outcome by an equation. What is gathered is scattered again.
 -- Assumes nothing.
-use mathlib.Core.Path.{_≡_, refl, sym, ap, ap₂, _∙_}
+use mathlib.Core.Path.{_≡_, sym, ap, ap₂, _∙_}
 use mathlib.Core.List.{List, _++_}
 use Prim.Native.Nat.{ℕ, _≤_}
 use native.Mathlib.Omega.{arith}
@@ -13,7 +13,6 @@ use Rattle.stack.specs.declared.StackJudgement.{StackJudgement}
 use Rattle.stack.specs.declared.StripsJudgement.{StripsJudgement}
 use Rattle.stack.specs.Faults.{StackJudged}
 use Rattle.stack.specs.Strips.{StripsAnswered}
-use Rattle.stack.specs.Laid.{laid}
 use Rattle.stack.proofs.Laying.{laid-only}
 use Rattle.stack.proofs.Exact.{stack-judged-unique, strips-answered-unique}
 use Rattle.bands.specs.declared.Banded.{Banded}

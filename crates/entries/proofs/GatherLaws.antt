@@ -1,13 +1,13 @@
 -- What gathering entries one by one keeps: a field that is put at n stands there, and the others stand as they stood. At the end every
 -- entry that is handed in is there, and zeros past the last. Assumes nothing.
 use mathlib.Core.Path.{_≡_, refl, sym, ap, _∙_, subst}
-use mathlib.Core.List.{List, [], _∷_}
+use mathlib.Core.List.{List}
 use mathlib.Core.Bool.{Bool}
 use Prim.Native.Nat.{ℕ, zero, suc, _≤_, _<_, min}
 use native.Mathlib.Omega.{arith}
 use lib.IntN.{ℤ, pos}
 use lib.ListN.{length, getD, take, set, replicate, length-set, List·getD-eq-default, length-take}
-use lib.Seq.{getD-set-same, getD-set-other, getD-take, ext-getD, take-all}
+use lib.Seq.{getD-set-same, getD-set-other, getD-take, ext-getD}
 use lib.Dec.{ltb, eqb}
 use borrow.Author.Tests.{eqb-true, eqb-false, ltb-true, ltb-false}
 use Rattle.stack.specs.declared.Layer.{Layer}

@@ -1,12 +1,11 @@
 -- What writing entries one by one keeps: the front is the stack's, the rest is as before. The copied list is the front that is written.
 -- Assumes nothing.
-use mathlib.Core.Path.{_≡_, refl, sym, ap, ap₂, _∙_}
+use mathlib.Core.Path.{_≡_, sym, ap, _∙_}
 use mathlib.Core.List.{List, _++_}
-use Prim.Native.Nat.{ℕ, _+_, _≤_, _<_}
+use Prim.Native.Nat.{ℕ, _+_, _<_}
 use native.Mathlib.Omega.{arith}
-use lib.ListN.{length, getD, take, drop, set}
+use lib.ListN.{length, take, drop, set}
 use lib.Seq.{length-take-le, getD-take}
-use Rattle.whole.specs.Filled.{Filled}
 use Rattle.whole.proofs.Filling.{CopySo, copy-begun, copy-more, copy-done}
 use Rattle.stack.specs.declared.Layer.{Layer}
 use Rattle.stack.specs.declared.Stack.{Stack}
