@@ -47,7 +47,8 @@ module _ (es : List Layer) where
   best-strips-once c strips work p q = let b = bands-unique p q in (b .answer, b .strips, b .works)
 
   -- up to 20 entries, scattered where there is room, stand at the front as they stood
-  pub gathered-scattered : (old : List Layer) → length es ≤ 20 → length es ≤ length old → scattered (gathered es) old ≡ es ++ drop (length es) old
+  pub gathered-scattered : (old : List Layer) → length es ≤ 20 → length es ≤ length old
+      → scattered (gathered es) old ≡ es ++ drop (length es) old
   unfolding scattered gathered
   gathered-scattered old few room =
       let n : written (gathered es) (length old) ≡ length es = omega (arith, few, room) in

@@ -64,11 +64,14 @@ one-more st es n e l g q = record {
   firsts = g .firsts ∙ sym (length-set (st .first) n (e .first));
   counts = g .counts ∙ sym (length-set (st .count) n (e .count));
   plane = one-put (st .plane) (λ i. entry (take n es) i .plane) (λ i. entry (take (suc n) es) i .plane) n (pos 0) (e .plane)
-      (omega (arith, g .planes)) (g .plane) (λ k h. ap (λ (x : Layer). x .plane) (front-other es n k h)) (ap (λ (x : Layer). x .plane) here);
+      (omega (arith, g .planes)) (g .plane) (λ k h.
+      ap (λ (x : Layer). x .plane) (front-other es n k h)) (ap (λ (x : Layer). x .plane) here);
   first = one-put (st .first) (λ i. entry (take n es) i .first) (λ i. entry (take (suc n) es) i .first) n 0 (e .first)
-      (omega (arith, g .firsts)) (g .first) (λ k h. ap (λ (x : Layer). x .first) (front-other es n k h)) (ap (λ (x : Layer). x .first) here);
+      (omega (arith, g .firsts)) (g .first) (λ k h.
+      ap (λ (x : Layer). x .first) (front-other es n k h)) (ap (λ (x : Layer). x .first) here);
   count = one-put (st .count) (λ i. entry (take n es) i .count) (λ i. entry (take (suc n) es) i .count) n 0 (e .count)
-      (omega (arith, g .counts)) (g .count) (λ k h. ap (λ (x : Layer). x .count) (front-other es n k h)) (ap (λ (x : Layer). x .count) here);
+      (omega (arith, g .counts)) (g .count) (λ k h.
+      ap (λ (x : Layer). x .count) (front-other es n k h)) (ap (λ (x : Layer). x .count) here);
 }
   where
     here : entry (take (suc n) es) n ≡ e

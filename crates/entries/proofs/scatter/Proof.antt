@@ -23,9 +23,11 @@ use prog.Wp.{Heap, Out, Env, afterSeq, afterBlock, afterTurn, Calls, Loops, Wp, 
 use ghost.Atoms.{Atoms, sem}
 use contract.Monad.{Fun, fact}
 use contract.Running.{givenOf, tables, tablesOf}
-use types.Kit.{Given, Item, Sq, runs, ‵, raw, _⊛_, ⋆, some, later, anyQ, atRet, _$_, _∵_, !, qed, by, move, keep, drop, use0, use1, split, join, pick, rewrite, fsplit, fjoin, feqI, suffices, frame, await, done}
+use types.Kit.{Given, Item, Sq, runs, ‵, raw, _⊛_, ⋆, some, later, anyQ, atRet, _$_, _∵_, !, qed, by, move, keep, drop, use0, use1, split}
+use types.Kit.{join, pick, rewrite, fsplit, fjoin, feqI, suffices, frame, await, done}
 use types.Part.{whole, sub, look-in}
-use types.Run.{look, store, store-raw, init, forget, stop, hop, fld, from, load, lit, unit-lit, of-opd, bin, and-then, no-more, assigns, assigns-last, stays, leaves-loop, land, returns, enter, alloc1, alloc0, params1, pass1, pass0, free1, free0, exec}
+use types.Run.{look, store, store-raw, init, forget, stop, hop, fld, from, load, lit, unit-lit, of-opd, bin, and-then, no-more, assigns}
+use types.Run.{assigns-last, stays, leaves-loop, land, returns, enter, alloc1, alloc0, params1, pass1, pass0, free1, free0, exec}
 use sound.Loop.{loop-rule}
 use sound.WpLaws.{fmOf, WpFn-mono}
 use denote.RattleType.{owns}
@@ -92,7 +94,9 @@ module _ {M : Type 1} (𝓤 : URA M) (H : Heap 𝓤) (A : Atoms 𝓤) (mem : Mem
   abbrev Few : Contract 𝓤
   Few = tripleOf 𝓤 H A few.signature (few.spec 𝓤 H A mem run)
 
-module _ {M : Type 1} (𝓤 : URA M) (H : Heap 𝓤) (A : Atoms 𝓤) (W : Given 𝓤 H A) (mem : Memory → SProp 𝓤) (run : Routine → Fun 𝓤) (κ : Lft) (q : Share) (b o : ℕ) (γ : GName) (ys : List Layer) (st : Stack) (gn : Room Ly.the-row (length ys)) (is : Is St.the-row st (stack-val st ∷ [])) where
+module _ {M : Type 1} (𝓤 : URA M) (H : Heap 𝓤) (A : Atoms 𝓤) (W : Given 𝓤 H A) (mem : Memory → SProp 𝓤) (run : Routine
+    → Fun 𝓤) (κ : Lft) (q : Share) (b o : ℕ) (γ : GName) (ys : List Layer) (st : Stack) (gn : Room Ly.the-row (length ys))
+    (is : Is St.the-row st (stack-val st ∷ [])) where
   abbrev n : ℕ
   n = length ys
 
@@ -112,13 +116,21 @@ module _ {M : Type 1} (𝓤 : URA M) (H : Heap 𝓤) (A : Atoms 𝓤) (W : Given
   Post = walkOf 𝓤 H A scatter.ended stayed (scatter.clauses 𝓤 H A mem run) .post bound
 
   exits : (zs : List Layer) → length zs ≡ n → zs ≡ scattered st ys
-      → ent 𝓤 (⋆ 𝓤 H A (‵ (fobs γ (codedHoleys Ly.the-row .code (heres Ly.the-row zs))) ∷ ‵ (fbor κ (Held Ly.the-row (length zs) b o γ)) ∷ ‵ (flft κ q) ∷ [])) (Post vunit)
+      → ent 𝓤 (⋆ 𝓤 H A (‵ (fobs γ (codedHoleys Ly.the-row .code (heres Ly.the-row zs))) ∷ ‵ (fbor κ (Held Ly.the-row (length zs) b o γ))
+      ∷ ‵ (flft κ q) ∷ [])) (Post vunit)
   exits zs l e =
-      qed W (‵ (fobs γ (codedHoleys Ly.the-row .code (heres Ly.the-row zs))) ∷ ‵ (fbor κ (Held Ly.the-row (length zs) b o γ)) ∷ ‵ (flft κ q) ∷ []) ∵
-      suffices ! _ (ends-at 𝓤 H A scatter.ended stayed (scatter.clauses 𝓤 H A mem run) W bound vunit tt (zs, (tt, tt)) (l, (tt, tt))) $ says ! e $
+      qed W (‵ (fobs γ (codedHoleys Ly.the-row .code (heres Ly.the-row zs))) ∷ ‵ (fbor κ (Held Ly.the-row (length zs) b o γ)) ∷ ‵ (flft κ q)
+      ∷ []) ∵
+      suffices ! _ (ends-at 𝓤 H A scatter.ended stayed (scatter.clauses 𝓤 H A mem run) W bound vunit tt (zs, (tt, tt)) (l, (tt, tt))) $
+      says ! e $
       nothing ! $ move ! (3 ∷ 0 ∷ []) $ join ! $ frame ! $ fjoin ! $
-      pureI ! (at-slice Ly.the-row (record { ptr = (b, o); name = γ; now = zs }) (v ∷ [])) (tt, (tt, tt)) (ap (λ (m : ℕ). sliceVal (b, o) m ∷ []) (sym l), subst (Room Ly.the-row) (sym l) gn) $ fjoin ! $
-      nothing ! $ owned ! St.the-row (Is St.the-row) (LL.makes St.the-type St′.the-plain 𝓤 H A) st _ is $ fjoin ! $ move ! (1 ∷ 0 ∷ []) $ fjoin ! $ frame ! $
+      pureI ! (at-slice Ly.the-row (record { ptr = (b, o); name = γ; now = zs }) (v ∷ [])) (tt, (tt, tt)) (
+        ap (λ (m : ℕ).
+            sliceVal (b, o) m ∷ []) (sym l),
+        subst (Room Ly.the-row) (sym l) gn,
+      ) $ fjoin ! $
+      nothing ! $ owned ! St.the-row (Is St.the-row) (LL.makes St.the-type St′.the-plain 𝓤 H A) st _ is $ fjoin ! $ move ! (1 ∷ 0 ∷ []) $
+      fjoin ! $ frame ! $
       feqI ! (List Val) (vunit ∷ []) (vunit ∷ []) refl $ done !
 
   -- ---- what the callees are passed, and what they say
@@ -128,7 +140,8 @@ module _ {M : Type 1} (𝓤 : URA M) (H : Heap 𝓤) (A : Atoms 𝓤) (W : Given
   asked-few : ent 𝓤 (emp 𝓤) (Few 𝓤 H A mem run .pre to-few)
   asked-few =
       qed W [] ∵ nothing ! $ owned ! usize (Is usize) (uint-makes 𝓤 H A W w64) n _ (refl, gn .0) $ fjoin ! $
-      owned ! St.the-row (Is St.the-row) (LL.makes St.the-type St′.the-plain 𝓤 H A) st _ is $ fjoin ! $ nothing ! $ join ! $ frame ! $ done !
+      owned ! St.the-row (Is St.the-row) (LL.makes St.the-type St′.the-plain 𝓤 H A) st _ is $ fjoin ! $ nothing ! $ join ! $ frame ! $
+      done !
 
   said-few : (r : ℕ) → ent 𝓤 (ensured 𝓤 H A few.ended (few.clauses 𝓤 H A mem run) tt (st, (n, tt)) tt r) (fact 𝓤 (r ≡ written st n))
   said-few r = exE 𝓤 _ (λ ws. snd∗ 𝓤 (sem 𝓤 H A (lasts few.ended tt (st, (n, tt)) ws)) (fact 𝓤 (r ≡ written st n)))
@@ -139,13 +152,16 @@ module _ {M : Type 1} (𝓤 : URA M) (H : Heap 𝓤) (A : Atoms 𝓤) (W : Given
   asked-layer : (k : ℕ) → k < 2 ^ 64 → ent 𝓤 (emp 𝓤) (LayerAt 𝓤 H A mem run .pre (to-layer k))
   asked-layer k fits =
       qed W [] ∵ nothing ! $ owned ! usize (Is usize) (uint-makes 𝓤 H A W w64) k _ (refl, fits) $ fjoin ! $
-      owned ! St.the-row (Is St.the-row) (LL.makes St.the-type St′.the-plain 𝓤 H A) st _ is $ fjoin ! $ nothing ! $ join ! $ frame ! $ done !
+      owned ! St.the-row (Is St.the-row) (LL.makes St.the-type St′.the-plain 𝓤 H A) st _ is $ fjoin ! $ nothing ! $ join ! $ frame ! $
+      done !
 
-  said-layer : (k : ℕ) (r : Layer) → ent 𝓤 (ensured 𝓤 H A layer.ended (layer.clauses 𝓤 H A mem run) tt (st, (k, tt)) tt r) (fact 𝓤 (r ≡ entry (laid st) k))
+  said-layer : (k : ℕ) (r : Layer)
+      → ent 𝓤 (ensured 𝓤 H A layer.ended (layer.clauses 𝓤 H A mem run) tt (st, (k, tt)) tt r) (fact 𝓤 (r ≡ entry (laid st) k))
   said-layer k r = exE 𝓤 _ (λ ws. snd∗ 𝓤 (sem 𝓤 H A (lasts layer.ended tt (st, (k, tt)) ws)) (fact 𝓤 (r ≡ entry (laid st) k)))
 
   -- ---- the loop
-  module _ (𝓣 : Tables 𝓤 H) (known : Triple 𝓤 (𝓣 .C #stack·layer-at) (LayerAt 𝓤 H A mem run)) (m : ℕ) (em : m ≡ written st n) (fm : m < 2 ^ 64) (l₀ l₁ l₂ l₃ l₄ l₅ l₆ l₇ l₈ l₉ : ℕ) where
+  module _ (𝓣 : Tables 𝓤 H) (known : Triple 𝓤 (𝓣 .C #stack·layer-at) (LayerAt 𝓤 H A mem run)) (m : ℕ) (em : m ≡ written st n)
+      (fm : m < 2 ^ 64) (l₀ l₁ l₂ l₃ l₄ l₅ l₆ l₇ l₈ l₉ : ℕ) where
     abbrev C : Calls 𝓤 H
     C = 𝓣 .C
 
@@ -153,17 +169,22 @@ module _ {M : Type 1} (𝓤 : URA M) (H : Heap 𝓤) (A : Atoms 𝓤) (W : Given
     Λ = 𝓣 .Λ
 
     abbrev En : Env 𝓤 H
-    En = (tyUnit, l₀) ∷ (slice, l₁) ∷ (St′.mir, l₂) ∷ (word, l₃) ∷ (word, l₄) ∷ (word, l₅) ∷ (tyBool, l₆) ∷ (Ly′.mir, l₇) ∷ (word, l₈) ∷ (tyPtr, l₉) ∷ []
+    En = (tyUnit, l₀) ∷ (slice, l₁) ∷ (St′.mir, l₂) ∷ (word, l₃) ∷ (word, l₄) ∷ (word, l₅) ∷ (tyBool, l₆) ∷ (Ly′.mir, l₇) ∷ (word, l₈)
+        ∷ (tyPtr, l₉) ∷ []
 
     -- what no turn touches
     abbrev Frame : List (Item 𝓤)
-    Frame = ‵ (fobor κ q (Held Ly.the-row n b o γ)) ∷ ‵ (fobs γ (codedHoleys Ly.the-row .code (heres Ly.the-row ys))) ∷ ‵ (fauth γ (codedHoleys Ly.the-row .code (heres Ly.the-row ys)))
-        ∷ ‵ (fat fullShare St′.mir l₂ 0 (stack-val st)) ∷ ‵ (fat fullShare word l₃ 0 (vint w64 m)) ∷ ‵ (fat fullShare slice l₁ 0 v) ∷ ‵ (froom tyUnit l₀ 0) ∷ ‵ (froom word l₅ 0)
-        ∷ ‵ (fdies tyUnit l₀) ∷ ‵ (fdies slice l₁) ∷ ‵ (fdies St′.mir l₂) ∷ ‵ (fdies word l₃) ∷ ‵ (fdies word l₄) ∷ ‵ (fdies word l₅) ∷ ‵ (fdies tyBool l₆) ∷ ‵ (fdies Ly′.mir l₇) ∷ ‵ (fdies word l₈) ∷ ‵ (fdies tyPtr l₉) ∷ []
+    Frame = ‵ (fobor κ q (Held Ly.the-row n b o γ)) ∷ ‵ (fobs γ (codedHoleys Ly.the-row .code (heres Ly.the-row ys)))
+        ∷ ‵ (fauth γ (codedHoleys Ly.the-row .code (heres Ly.the-row ys)))
+        ∷ ‵ (fat fullShare St′.mir l₂ 0 (stack-val st)) ∷ ‵ (fat fullShare word l₃ 0 (vint w64 m)) ∷ ‵ (fat fullShare slice l₁ 0 v)
+        ∷ ‵ (froom tyUnit l₀ 0) ∷ ‵ (froom word l₅ 0)
+        ∷ ‵ (fdies tyUnit l₀) ∷ ‵ (fdies slice l₁) ∷ ‵ (fdies St′.mir l₂) ∷ ‵ (fdies word l₃) ∷ ‵ (fdies word l₄) ∷ ‵ (fdies word l₅)
+        ∷ ‵ (fdies tyBool l₆) ∷ ‵ (fdies Ly′.mir l₇) ∷ ‵ (fdies word l₈) ∷ ‵ (fdies tyPtr l₉) ∷ []
 
     -- zs stands in the slice, with k entries written
     abbrev At : ℕ → List Layer → List (Item 𝓤)
-    At k zs = ‵ (row Ly.the-row fullShare zs b o) ∷ ‵ (fat fullShare word l₄ 0 (vint w64 k)) ∷ ‵ (froom tyBool l₆ 0) ∷ ‵ (froom Ly′.mir l₇ 0) ∷ ‵ (froom word l₈ 0) ∷ ‵ (froom tyPtr l₉ 0) ∷ Frame
+    At k zs = ‵ (row Ly.the-row fullShare zs b o) ∷ ‵ (fat fullShare word l₄ 0 (vint w64 k)) ∷ ‵ (froom tyBool l₆ 0)
+        ∷ ‵ (froom Ly′.mir l₇ 0) ∷ ‵ (froom word l₈ 0) ∷ ‵ (froom tyPtr l₉ 0) ∷ Frame
 
     pub record Facts (t k : ℕ) (zs : List Layer) : Type 0 where
       pub sum : k + t ≡ m
@@ -186,27 +207,41 @@ module _ {M : Type 1} (𝓤 : URA M) (H : Heap 𝓤) (A : Atoms 𝓤) (W : Given
     unfolding afterTurn
     more k zs X small inside long go =
         qed W (At k zs) ∵ exec ! C Λ En mir.turn-1 (anyQ (afterTurn 𝓤 H X Left)) $
-        assigns ! (bin ! (load ! (from ! (stop !)) (look ! 1 refl)) (load ! (from ! (stop !)) (look ! 10 refl)) tt) (from ! (stop !)) (init ! 2 refl (tt, tt)) $
+        assigns ! (bin ! (load ! (from ! (stop !)) (look ! 1 refl)) (load ! (from ! (stop !)) (look ! 10 refl)) tt) (from ! (stop !))
+        (init ! 2 refl (tt, tt)) $
         rewrite ! 2 (λ (t : Bool). ‵ (fat fullShare tyBool l₆ 0 (vbool t))) (holds (ltb k m) (lt→ltb k m small)) refl $
         stays ! (load ! (from ! (stop !)) (look ! 2 refl)) $
         use0 W (raw (LayerAt 𝓤 H A mem run .pre (to-layer k))) (asked-layer k fits) $
-        calls-at ! (fmOf 𝓤 H (W .laws) 𝓣) (LayerAt 𝓤 H A mem run) known (to-layer k) (and-then ! (load ! (from ! (stop !)) (look ! 10 refl)) (and-then ! (load ! (from ! (stop !)) (look ! 2 refl)) (no-more !))) (λ u.
-        use1 W (later (some (λ (r : Layer). (‵ ftrue ⊛ ‵ (Ly.the-row .own r (u ∷ []))) ⊛ raw (ensured 𝓤 H A layer.ended (layer.clauses 𝓤 H A mem run) tt (st, (k, tt)) tt r)))) (id⊢ 𝓤 _) $ await ! tt $ pick ! (λ e.
-        split ! $ move ! (1 ∷ []) $ use1 W (raw (fact 𝓤 (e ≡ entry (laid st) k))) (said-layer k e) $ heard ! (e ≡ entry (laid st) k) (λ f. split ! $ move ! (1 ∷ []) $
+        calls-at ! (fmOf 𝓤 H (W .laws) 𝓣) (LayerAt 𝓤 H A mem run) known (to-layer k) (and-then ! (load ! (from ! (stop !)) (look ! 10 refl))
+        (and-then ! (load ! (from ! (stop !)) (look ! 2 refl)) (no-more !))) (λ u.
+        use1 W (later (some (λ (r : Layer). (‵ ftrue ⊛ ‵ (Ly.the-row .own r (u ∷ []))) ⊛
+        raw (ensured 𝓤 H A layer.ended (layer.clauses 𝓤 H A mem run) tt (st, (k, tt)) tt r)))) (id⊢ 𝓤 _) $ await ! tt $ pick ! (λ e.
+        split ! $ move ! (1 ∷ []) $ use1 W (raw (fact 𝓤 (e ≡ entry (laid st) k))) (said-layer k e) $ heard ! (e ≡ entry (laid st) k) (λ f.
+        split ! $ move ! (1 ∷ []) $
         -- [the entry; true; the row; _4; _6; _7; _8; _9; …]
         peeks ! Ly.the-row (Is Ly.the-row) (shows 𝓤 H A Ly.the-row) e (u ∷ []) (λ ie.
         land ! (from ! (stop !)) (init ! 5 refl (LL.lawful Ly.the-type Ly′.the-laws 𝓤 H A W .typed e _ ie .0)) $
-        rewrite ! 5 (λ (w : Val). ‵ (fat fullShare Ly′.mir l₇ 0 w)) (ap only (LL.tells Ly.the-type Ly′.the-laws e (u ∷ []) ie)) refl $ drop ! $ drop ! $
-        assigns ! (bin ! (load ! (from ! (stop !)) (look ! 1 refl)) (lit ! tt) (record { fits = fits-place })) (from ! (stop !)) (init ! 4 refl (tt, record { fits = fits-place })) $
-        assigns ! (bin ! (load ! (from ! (fld ! refl (stop !))) (look-in ! 11 (sub ! 0 refl (whole !)))) (load ! (from ! (stop !)) (look ! 4 refl)) tt) (from ! (stop !)) (init ! 5 refl (tt, tt)) $
+        rewrite ! 5 (λ (w : Val). ‵ (fat fullShare Ly′.mir l₇ 0 w)) (ap only (LL.tells Ly.the-type Ly′.the-laws e (u ∷ []) ie)) refl $
+        drop ! $ drop ! $
+        assigns ! (bin ! (load ! (from ! (stop !)) (look ! 1 refl)) (lit ! tt) (record {
+          fits =
+              fits-place;
+        })) (from ! (stop !)) (init ! 4 refl (tt, record { fits = fits-place })) $
+        assigns ! (bin ! (load ! (from ! (fld ! refl (stop !))) (look-in ! 11 (sub ! 0 refl (whole !))))
+        (load ! (from ! (stop !)) (look ! 4 refl)) tt) (from ! (stop !)) (init ! 5 refl (tt, tt)) $
         rewrite ! 5 (λ (p : ℕ). ‵ (fat fullShare tyPtr l₉ 0 (vptr b p))) (sym (place-is 24 o k)) refl $
-        elem-out ! Ly.the-row (Is Ly.the-row) (shows 𝓤 H A Ly.the-row) (LL.vals Ly.the-type Ly′.the-laws) (LL.tells Ly.the-type Ly′.the-laws) fullShare zs k noLayer b o inside (λ _.
+        elem-out ! Ly.the-row (Is Ly.the-row) (shows 𝓤 H A Ly.the-row) (LL.vals Ly.the-type Ly′.the-laws)
+        (LL.tells Ly.the-type Ly′.the-laws) fullShare zs k noLayer b o inside (λ _.
         -- [element k; what it owns; the others; _4; _6; _7; _8; _9; …]
         assigns ! (of-opd ! (load ! (from ! (stop !)) (look ! 5 refl))) (from ! (hop ! (look ! 7 refl) (stop !)))
         (store-raw ! 0 refl (LL.lawful Ly.the-type Ly′.the-laws 𝓤 H A W .typed e _ (made e u ie) .0)) $
-        move ! (1 ∷ []) $ drop ! $ owned ! Ly.the-row (Is Ly.the-row) (LL.makes Ly.the-type Ly′.the-plain 𝓤 H A) e _ (made e u ie) $ move ! (1 ∷ 0 ∷ []) $
+        move ! (1 ∷ []) $ drop ! $ owned ! Ly.the-row (Is Ly.the-row) (LL.makes Ly.the-type Ly′.the-plain 𝓤 H A) e _ (made e u ie) $
+        move ! (1 ∷ 0 ∷ []) $
         elem-put ! Ly.the-row fullShare zs k e (layer-val e ∷ []) b o inside $
-        assigns-last ! (bin ! (load ! (from ! (stop !)) (look ! 1 refl)) (lit ! tt) (record { fits = up-fits k m small fm })) (from ! (stop !)) (store ! 1 refl (tt, record { fits = up-fits k m small fm })) $
+        assigns-last ! (bin ! (load ! (from ! (stop !)) (look ! 1 refl)) (lit ! tt) (record {
+          fits =
+              up-fits k m small fm;
+        })) (from ! (stop !)) (store ! 1 refl (tt, record { fits = up-fits k m small fm })) $
         forget ! 2 refl $ forget ! 3 refl $ forget ! 4 refl $ forget ! 5 refl $ by ! (go e f))))))
       where
         fits : k < 2 ^ 64
@@ -219,40 +254,54 @@ module _ {M : Type 1} (𝓤 : URA M) (H : Heap 𝓤) (A : Atoms 𝓤) (W : Given
         made e u ie = subst (Is Ly.the-row e) (LL.tells Ly.the-type Ly′.the-laws e (u ∷ []) ie) ie
 
     -- the turn that leaves the loop, and the rest of the body
-    ends : (k : ℕ) (zs : List Layer) (X : SProp 𝓤) → k ≡ m → length zs ≡ n → zs ≡ scattered st ys → ent 𝓤 (⋆ 𝓤 H A (At k zs)) (Wp 𝓤 H C Λ En mir.turn-1 (afterTurn 𝓤 H X Left))
+    ends : (k : ℕ) (zs : List Layer) (X : SProp 𝓤) → k ≡ m → length zs ≡ n → zs ≡ scattered st ys
+        → ent 𝓤 (⋆ 𝓤 H A (At k zs)) (Wp 𝓤 H C Λ En mir.turn-1 (afterTurn 𝓤 H X Left))
     unfolding afterTurn
     ends k zs X e long is-so =
         qed W (At k zs) ∵ exec ! C Λ En mir.turn-1 (anyQ (afterTurn 𝓤 H X Left)) $
-        assigns ! (bin ! (load ! (from ! (stop !)) (look ! 1 refl)) (load ! (from ! (stop !)) (look ! 10 refl)) tt) (from ! (stop !)) (init ! 2 refl (tt, tt)) $
+        assigns ! (bin ! (load ! (from ! (stop !)) (look ! 1 refl)) (load ! (from ! (stop !)) (look ! 10 refl)) tt) (from ! (stop !))
+        (init ! 2 refl (tt, tt)) $
         rewrite ! 2 (λ (t : Bool). ‵ (fat fullShare tyBool l₆ 0 (vbool t))) (fails (ltb k m) (λ a. not-before k m e (ltb→lt k m a))) refl $
         leaves-loop ! (load ! (from ! (stop !)) (look ! 2 refl)) $ exec ! C Λ En mir.t-5 (atRet En Post) $
         move ! (0 ∷ 6 ∷ 7 ∷ 8 ∷ []) $ closes-slice ! tt Ly.the-row ys zs long b o $
         -- [obs; the borrow; the token; _4; _6; _7; _8; _9; _2; _3; _1; _0; _5; and that each local dies]
         assigns ! (of-opd ! (unit-lit !)) (from ! (stop !)) (init ! 11 refl (tt, tt)) $
-        returns ! (look ! 11 refl) $ forget ! 3 refl $ forget ! 4 refl $ forget ! 8 refl $ forget ! 9 refl $ forget ! 10 refl $ forget ! 11 refl $
-        move ! (11 ∷ 13 ∷ []) $ free1 ! $ move ! (10 ∷ 12 ∷ []) $ free1 ! $ move ! (8 ∷ 11 ∷ []) $ free1 ! $ move ! (8 ∷ 10 ∷ []) $ free1 ! $ move ! (3 ∷ 9 ∷ []) $ free1 ! $
-        move ! (7 ∷ 8 ∷ []) $ free1 ! $ move ! (3 ∷ 7 ∷ []) $ free1 ! $ move ! (3 ∷ 6 ∷ []) $ free1 ! $ move ! (3 ∷ 5 ∷ []) $ free1 ! $ move ! (3 ∷ 4 ∷ []) $ free1 ! $ free0 ! $
+        returns ! (look ! 11 refl) $ forget ! 3 refl $ forget ! 4 refl $ forget ! 8 refl $ forget ! 9 refl $ forget ! 10 refl $
+        forget ! 11 refl $
+        move ! (11 ∷ 13 ∷ []) $ free1 ! $ move ! (10 ∷ 12 ∷ []) $ free1 ! $ move ! (8 ∷ 11 ∷ []) $ free1 ! $ move ! (8 ∷ 10 ∷ []) $
+        free1 ! $ move ! (3 ∷ 9 ∷ []) $ free1 ! $
+        move ! (7 ∷ 8 ∷ []) $ free1 ! $ move ! (3 ∷ 7 ∷ []) $ free1 ! $ move ! (3 ∷ 6 ∷ []) $ free1 ! $ move ! (3 ∷ 5 ∷ []) $ free1 ! $
+        move ! (3 ∷ 4 ∷ []) $ free1 ! $ free0 ! $
         by ! (exits zs long is-so)
 
     -- the invariant, shown
     shown : (t k : ℕ) (zs : List Layer) → Facts t k zs → ent 𝓤 (⋆ 𝓤 H A (At k zs)) (Inv t)
     shown t k zs f =
         via 𝓤 (guard 𝓤 (Facts t k zs) (⋆ 𝓤 H A (At k zs))) (guardI 𝓤 (Facts t k zs) (⋆ 𝓤 H A (At k zs)) f)
-        (via 𝓤 (ex 𝓤 (λ (r : List Layer). guard 𝓤 (Facts t k r) (⋆ 𝓤 H A (At k r)))) (exI 𝓤 (λ (r : List Layer). guard 𝓤 (Facts t k r) (⋆ 𝓤 H A (At k r))) zs)
+        (via 𝓤 (ex 𝓤 (λ (r : List Layer). guard 𝓤 (Facts t k r) (⋆ 𝓤 H A (At k r))))
+        (exI 𝓤 (λ (r : List Layer). guard 𝓤 (Facts t k r) (⋆ 𝓤 H A (At k r))) zs)
         (exI 𝓤 (λ (j : ℕ). ex 𝓤 (λ (r : List Layer). guard 𝓤 (Facts t j r) (⋆ 𝓤 H A (At j r)))) k))
 
     -- a turn from the invariant at t leaves the loop, or ends in the invariant below t
-    turn-at : (t k : ℕ) (zs : List Layer) → Facts t k zs → ent 𝓤 (⋆ 𝓤 H A (At k zs)) (Wp 𝓤 H C Λ En mir.turn-1 (afterTurn 𝓤 H (Below t) Left))
-    turn-at zero k zs f = ends k zs (Below zero) (at-end k m (f .sum)) (f .so .long) (scatter-done st ys m em k zs (f .so) (at-end k m (f .sum)))
+    turn-at : (t k : ℕ) (zs : List Layer) → Facts t k zs
+        → ent 𝓤 (⋆ 𝓤 H A (At k zs)) (Wp 𝓤 H C Λ En mir.turn-1 (afterTurn 𝓤 H (Below t) Left))
+    turn-at zero k zs f =
+        ends k zs (Below zero) (at-end k m (f .sum)) (f .so .long) (scatter-done st ys m em k zs (f .so) (at-end k m (f .sum)))
     turn-at (suc t) k zs f =
         let small = before k t m (f .sum) in
         more k zs (Below (suc t)) small (scatter-inside st ys m em k zs (f .so) small) (f .so .long) (λ e q.
-        via 𝓤 (Inv t) (shown t (k + 1) (set zs k e) (record { sum = left k t m (f .sum); so = scatter-more st ys m em k zs (f .so) e small q }))
-        (via 𝓤 (guard 𝓤 (t < suc t) (Inv t)) (guardI 𝓤 (t < suc t) (Inv t) (lt-suc-self t)) (exI 𝓤 (λ (u : ℕ). guard 𝓤 (u < suc t) (Inv u)) t)))
+        via 𝓤 (Inv t) (shown t (k + 1) (set zs k e) (record {
+          sum = left k t m (f .sum);
+          so =
+              scatter-more st ys m em k zs (f .so) e small q;
+        }))
+        (via 𝓤 (guard 𝓤 (t < suc t) (Inv t)) (guardI 𝓤 (t < suc t) (Inv t) (lt-suc-self t)) (exI 𝓤 (λ (u : ℕ).
+        guard 𝓤 (u < suc t) (Inv u)) t)))
 
     turns : (t : ℕ) → ent 𝓤 (Inv t) (Wp 𝓤 H C Λ En mir.turn-1 (afterTurn 𝓤 H (Below t) Left))
     turns t = exE 𝓤 (λ (k : ℕ). ex 𝓤 (λ (zs : List Layer). guard 𝓤 (Facts t k zs) (⋆ 𝓤 H A (At k zs)))) (λ k.
-        exE 𝓤 (λ (zs : List Layer). guard 𝓤 (Facts t k zs) (⋆ 𝓤 H A (At k zs))) (λ zs. guardE 𝓤 (Facts t k zs) (⋆ 𝓤 H A (At k zs)) (λ f. turn-at t k zs f)))
+        exE 𝓤 (λ (zs : List Layer). guard 𝓤 (Facts t k zs) (⋆ 𝓤 H A (At k zs))) (λ zs. guardE 𝓤 (Facts t k zs) (⋆ 𝓤 H A (At k zs)) (λ f.
+        turn-at t k zs f)))
 
     loops : ent 𝓤 (⋆ 𝓤 H A (At 0 ys)) (Wp 𝓤 H C Λ En (loop mir.turn-1) Left)
     loops =
@@ -264,37 +313,53 @@ module _ {M : Type 1} (𝓤 : URA M) (H : Heap 𝓤) (A : Atoms 𝓤) (W : Given
     looped = record { prf = loops }
 
   -- the MIR, up to the loop
-  walk : (𝓣 : Tables 𝓤 H) → Triple 𝓤 (𝓣 .C #stack·layer-at) (LayerAt 𝓤 H A mem run) → Triple 𝓤 (𝓣 .C #entries·written-of) (Few 𝓤 H A mem run)
-      → ent 𝓤 (onEntry 𝓤 H A scatter.signature (κ, tt) (q, tt) (x, (st, tt)) at) (WpFn 𝓤 H (𝓣 .C) (𝓣 .Λ) code.function (v ∷ stack-val st ∷ []) Post)
+  walk : (𝓣 : Tables 𝓤 H) → Triple 𝓤 (𝓣 .C #stack·layer-at) (LayerAt 𝓤 H A mem run)
+      → Triple 𝓤 (𝓣 .C #entries·written-of) (Few 𝓤 H A mem run)
+      → ent 𝓤 (onEntry 𝓤 H A scatter.signature (κ, tt) (q, tt) (x, (st, tt)) at) (WpFn 𝓤 H (𝓣 .C) (𝓣 .Λ) code.function (v ∷ stack-val st
+      ∷ []) Post)
   walk 𝓣 known-layer known-few =
-      qed W ((‵ (flft κ q) ⊛ ‵ ftrue) ∷ ‵ (owns (MutSlice (named 0) κ Ly.the-row ∷ St.the-row ∷ []) (x, (st, tt)) at) ∷ []) ∵ enter ! (𝓣 .C) (𝓣 .Λ) code.function (v ∷ stack-val st ∷ []) _ $
-      alloc1 ! (λ l₀. alloc1 ! (λ l₁. alloc1 ! (λ l₂. alloc1 ! (λ l₃. alloc1 ! (λ l₄. alloc1 ! (λ l₅. alloc1 ! (λ l₆. alloc1 ! (λ l₇. alloc1 ! (λ l₈. alloc1 ! (λ l₉. alloc0 ! $ params1 ! $
+      qed W ((‵ (flft κ q) ⊛ ‵ ftrue) ∷ ‵ (owns (MutSlice (named 0) κ Ly.the-row ∷ St.the-row ∷ []) (x, (st, tt)) at) ∷ []) ∵
+      enter ! (𝓣 .C) (𝓣 .Λ) code.function (v ∷ stack-val st ∷ []) _ $
+      alloc1 ! (λ l₀. alloc1 ! (λ l₁. alloc1 ! (λ l₂. alloc1 ! (λ l₃. alloc1 ! (λ l₄. alloc1 ! (λ l₅. alloc1 ! (λ l₆. alloc1 ! (λ l₇.
+      alloc1 ! (λ l₈. alloc1 ! (λ l₉. alloc0 ! $ params1 ! $
       pass1 ! (init ! 16 refl (tt, (tt, (record { fits = gn .0 }, tt)))) $
       pass1 ! (init ! 14 refl (LL.lawful St.the-type St′.the-laws 𝓤 H A W .typed st _ is .0)) $ pass0 ! $
-      assigns ! (of-opd ! (load ! (from ! (fld ! refl (stop !))) (look-in ! 16 (sub ! 1 refl (whole !))))) (from ! (stop !)) (init ! 8 refl (tt, record { fits = gn .0 })) $
+      assigns ! (of-opd ! (load ! (from ! (fld ! refl (stop !))) (look-in ! 16 (sub ! 1 refl (whole !))))) (from ! (stop !))
+      (init ! 8 refl (tt, record { fits = gn .0 })) $
       use0 W (raw (Few 𝓤 H A mem run .pre to-few)) asked-few $
-      calls-at ! (fmOf 𝓤 H (W .laws) 𝓣) (Few 𝓤 H A mem run) known-few to-few (and-then ! (load ! (from ! (stop !)) (look ! 15 refl)) (and-then ! (load ! (from ! (stop !)) (look ! 9 refl)) (no-more !))) (λ u.
-      use1 W (later (some (λ (r : ℕ). (‵ ftrue ⊛ ‵ (usize .own r (u ∷ []))) ⊛ raw (ensured 𝓤 H A few.ended (few.clauses 𝓤 H A mem run) tt (st, (n, tt)) tt r)))) (id⊢ 𝓤 _) $ await ! tt $ pick ! (λ m.
-      split ! $ move ! (1 ∷ []) $ use1 W (raw (fact 𝓤 (m ≡ written st n))) (said-few m) $ heard ! (m ≡ written st n) (λ em. split ! $ move ! (1 ∷ []) $
+      calls-at ! (fmOf 𝓤 H (W .laws) 𝓣) (Few 𝓤 H A mem run) known-few to-few (and-then ! (load ! (from ! (stop !)) (look ! 15 refl))
+      (and-then ! (load ! (from ! (stop !)) (look ! 9 refl)) (no-more !))) (λ u.
+      use1 W (later (some (λ (r : ℕ).
+      (‵ ftrue ⊛ ‵ (usize .own r (u ∷ []))) ⊛ raw (ensured 𝓤 H A few.ended (few.clauses 𝓤 H A mem run) tt (st, (n, tt)) tt r)))) (id⊢ 𝓤 _) $
+      await ! tt $ pick ! (λ m.
+      split ! $ move ! (1 ∷ []) $ use1 W (raw (fact 𝓤 (m ≡ written st n))) (said-few m) $ heard ! (m ≡ written st n) (λ em. split ! $
+      move ! (1 ∷ []) $
       peeks ! usize (Is usize) (shows 𝓤 H A usize) m (u ∷ []) (λ im.
       land ! (from ! (stop !)) (init ! 14 refl (uint-lawful 𝓤 H A W w64 .typed m _ im .0)) $
       rewrite ! 14 (λ (w : Val). ‵ (fat fullShare word l₃ 0 w)) (ap only (im .0)) refl $ drop ! $ drop ! $
       assigns ! (of-opd ! (lit ! tt)) (from ! (stop !)) (init ! 10 refl (tt, record { fits = lit< tt })) $ forget ! 8 refl $
       -- the borrow is opened
-      move ! (21 ∷ []) $ fsplit ! $ fsplit ! $ move ! (1 ∷ []) $ fsplit ! $ move ! (24 ∷ []) $ split ! $ move ! (2 ∷ 3 ∷ 0 ∷ []) $ opens-slice ! tt Ly.the-row ys b o $
-      -- [the row; the open borrow; obs; auth; true; the slice's fact; what the stack owns; _9; …; _8; …; _7; …; _6; …; _5; …; _4; …; _3; …; _2; …; _1; …; _0; …]
+      move ! (21 ∷ []) $ fsplit ! $ fsplit ! $ move ! (1 ∷ []) $ fsplit ! $ move ! (24 ∷ []) $ split ! $ move ! (2 ∷ 3 ∷ 0 ∷ []) $
+      opens-slice ! tt Ly.the-row ys b o $
+      -- [the row; the open borrow; obs; auth; true; the slice's fact; what the stack owns; _9; …; _8; …; _7; …; _6; …; _5; …; _4; …; _3; …;
+      -- _2; …; _1; …; _0; …]
       keep ! (0 ∷ 17 ∷ 13 ∷ 11 ∷ 9 ∷ 7 ∷ 1 ∷ 2 ∷ 3 ∷ 21 ∷ 19 ∷ 23 ∷ 25 ∷ 15 ∷ 26 ∷ 24 ∷ 22 ∷ 20 ∷ 18 ∷ 16 ∷ 14 ∷ 12 ∷ 10 ∷ 8 ∷ []) $
       looped 𝓣 known-layer m em (im .1) l₀ l₁ l₂ l₃ l₄ l₅ l₆ l₇ l₈ l₉))))))))))))))
 
 module _ {M : Type 1} (𝓤 : URA M) (H : Heap 𝓤) (A : Atoms 𝓤) (W : Given 𝓤 H A) (mem : Memory → SProp 𝓤) (run : Routine → Fun 𝓤) where
-  scatter-walks : (𝓣 : Tables 𝓤 H) → Triple 𝓤 (𝓣 .C #stack·layer-at) (LayerAt 𝓤 H A mem run) → Triple 𝓤 (𝓣 .C #entries·written-of) (Few 𝓤 H A mem run)
+  scatter-walks : (𝓣 : Tables 𝓤 H) → Triple 𝓤 (𝓣 .C #stack·layer-at) (LayerAt 𝓤 H A mem run)
+      → Triple 𝓤 (𝓣 .C #entries·written-of) (Few 𝓤 H A mem run)
       → Walks 𝓤 H A scatter.ended stayed (WpFn 𝓤 H (𝓣 .C) (𝓣 .Λ) code.function) (scatter.clauses 𝓤 H A mem run)
-  scatter-walks 𝓣 known-layer known-few = walked 𝓤 H A scatter.ended stayed (scatter.clauses 𝓤 H A mem run) (WpFn 𝓤 H (𝓣 .C) (𝓣 .Λ) code.function)
-      (λ κs. (slice-vals, (LL.vals St.the-type St′.the-laws, tt))) (λ κs. (mut-slice-tells (named 0) (κs .0) Ly.the-row, (LL.tells St.the-type St′.the-laws, tt)))
+  scatter-walks 𝓣 known-layer known-few =
+      walked 𝓤 H A scatter.ended stayed (scatter.clauses 𝓤 H A mem run) (WpFn 𝓤 H (𝓣 .C) (𝓣 .Λ) code.function)
+      (λ κs. (slice-vals, (LL.vals St.the-type St′.the-laws, tt))) (λ κs.
+      (mut-slice-tells (named 0) (κs .0) Ly.the-row, (LL.tells St.the-type St′.the-laws, tt)))
       (λ κs qs bounds a g are. via 𝓤 _ (fst∗ 𝓤 _ (emp 𝓤))
-      (walk 𝓤 H A W mem run (κs .0) (qs .0) (a .0 .ptr .0) (a .0 .ptr .1) (a .0 .name) (a .0 .now) (a .1 .0) (are .0 .0 .1) (are .1 .0) 𝓣 known-layer known-few))
+      (walk 𝓤 H A W mem run (κs .0) (qs .0) (a .0 .ptr .0) (a .0 .ptr .1) (a .0 .name) (a .0 .now) (a .1 .0) (are .0 .0 .1)
+      (are .1 .0) 𝓣 known-layer known-few))
 
-scatter-meets : {M : Type 1} (𝓤 : URA M) (H : Heap 𝓤) (A : Atoms 𝓤) (W : Given 𝓤 H A) (mem : Memory → SProp 𝓤) (run : Routine → Fun 𝓤) (𝓣 : Tables 𝓤 H)
+scatter-meets : {M : Type 1} (𝓤 : URA M) (H : Heap 𝓤) (A : Atoms 𝓤) (W : Given 𝓤 H A) (mem : Memory → SProp 𝓤) (run : Routine
+    → Fun 𝓤) (𝓣 : Tables 𝓤 H)
     → Triple 𝓤 (𝓣 .C #stack·layer-at) (LayerAt 𝓤 H A mem run) → Triple 𝓤 (𝓣 .C #entries·written-of) (Few 𝓤 H A mem run)
     → Meets 𝓤 H A scatter.signature (WpFn 𝓤 H (𝓣 .C) (𝓣 .Λ) code.function) (scatter.spec 𝓤 H A mem run)
 scatter-meets 𝓤 H A W mem run 𝓣 known-layer known-few = walk-meets 𝓤 H A scatter.ended stayed W
@@ -308,5 +373,7 @@ scatter-spec 𝓤 H 𝓜 𝓖 𝓡 =
     entered 𝓤 H (tripleOf 𝓤 H (𝓖 .A) scatter.signature (scatter.spec 𝓤 H (𝓖 .A) (𝓜 .mem) (𝓡 .run)))
     (tables 𝓤 H 𝓜 𝓡 code.env .C) (tables 𝓤 H 𝓜 𝓡 code.env .Λ) #entries·scatter code.function (code.unfolded 𝓤 H 𝓜 𝓡)
     (scatter-meets 𝓤 H (𝓖 .A) (givenOf 𝓤 H 𝓜 𝓖) (𝓜 .mem) (𝓡 .run) (tablesOf 𝓤 H 𝓜 (tables 𝓤 H 𝓜 𝓡 code.env))
-    (cited 𝓤 H (LayerAt 𝓤 H (𝓖 .A) (𝓜 .mem) (𝓡 .run)) 𝓜 𝓡 code.env #stack·layer-at layer-def.routine code.calls-stack·layer-at (layer-thm.met 𝓤 H 𝓜 𝓖 𝓡))
-    (cited 𝓤 H (Few 𝓤 H (𝓖 .A) (𝓜 .mem) (𝓡 .run)) 𝓜 𝓡 code.env #entries·written-of few-def.routine code.calls-entries·written-of (few-thm.met 𝓤 H 𝓜 𝓖 𝓡)))
+    (cited 𝓤 H (LayerAt 𝓤 H (𝓖 .A) (𝓜 .mem) (𝓡 .run)) 𝓜 𝓡 code.env #stack·layer-at layer-def.routine code.calls-stack·layer-at
+    (layer-thm.met 𝓤 H 𝓜 𝓖 𝓡))
+    (cited 𝓤 H (Few 𝓤 H (𝓖 .A) (𝓜 .mem) (𝓡 .run)) 𝓜 𝓡 code.env #entries·written-of few-def.routine code.calls-entries·written-of
+    (few-thm.met 𝓤 H 𝓜 𝓖 𝓡)))
