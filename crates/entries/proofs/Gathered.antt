@@ -50,8 +50,8 @@ module _ {M : Type 1} (𝓤 : URA M) (H : Heap 𝓤) (A : Atoms 𝓤) (mem : Mem
 abbrev pub Lent : Lft → RefT (List Layer) → Fml
 Lent κ x = ShrSlice (named 0) κ Ly.the-row .own x (sliceVal (x .ptr) (length (x .now)) ∷ [])
 
-module _ {M : Type 1} {𝓤 : URA M} {H : Heap 𝓤} {A : Atoms 𝓤} (W : Given 𝓤 H A) (mem : Memory → SProp 𝓤) (run : Routine
-    → Fun 𝓤) (κ : Lft) (q : Share) (x : RefT (List Layer)) where
+module _ {M : Type 1} {𝓤 : URA M} {H : Heap 𝓤} {A : Atoms 𝓤} (W : Given 𝓤 H A) (mem : Memory → SProp 𝓤)
+    (run : Routine → Fun 𝓤) (κ : Lft) (q : Share) (x : RefT (List Layer)) where
   asked : ent 𝓤 (⋆ 𝓤 H A (‵ (flft κ q) ∷ ‵ (Lent κ x) ∷ [])) (Gather 𝓤 H A mem run .pre (to-gather 𝓤 H A mem run κ q x))
   asked = qed W (‵ (flft κ q) ∷ ‵ (Lent κ x) ∷ []) ∵ nothing ! $ move ! (2 ∷ 0 ∷ []) $ fjoin ! $ nothing ! $ move ! (2 ∷ 0 ∷ []) $ join ! $
       join ! $ frame ! $ done !
@@ -60,8 +60,8 @@ module _ {M : Type 1} {𝓤 : URA M} {H : Heap 𝓤} {A : Atoms 𝓤} (W : Given
       (fact 𝓤 (st ≡ gathered (x .now)))
   said st = exE 𝓤 _ (λ ws. snd∗ 𝓤 (sem 𝓤 H A (lasts gather.ended (κ, tt) (x, tt) ws)) (fact 𝓤 (st ≡ gathered (x .now))))
 
-  pub gathers : {C : Calls 𝓤 H} {Λ : Loops 𝓤 H} {E : Env 𝓤 H} {p : Post 𝓤 H} {d : Place} {xs : List Operand} {rest : Body} {Γ : List
-      (Item 𝓤)}
+  pub gathers : {C : Calls 𝓤 H} {Λ : Loops 𝓤 H} {E : Env 𝓤 H} {p : Post 𝓤 H} {d : Place} {xs : List Operand} {rest : Body}
+      {Γ : List (Item 𝓤)}
       → FmC 𝓤 H (W .laws) C → Triple 𝓤 (C #entries·gather) (Gather 𝓤 H A mem run)
       → Opds (Go {0}) W (raw (Gather 𝓤 H A mem run .pre (to-gather 𝓤 H A mem run κ q x)) ∷ ‵ (Lent κ x)
       ∷ Γ) E xs (sliceVal (x .ptr) (length (x .now)) ∷ [])
@@ -73,8 +73,8 @@ module _ {M : Type 1} {𝓤 : URA M} {H : Heap 𝓤} {A : Atoms 𝓤} (W : Given
       ∷ [])) $ split ! $ move ! (2 ∷ 0 ∷ []) $
       use2 W (raw (Gather 𝓤 H A mem run .pre (to-gather 𝓤 H A mem run κ q x))) asked $
       calls-at ! fm (Gather 𝓤 H A mem run) known (to-gather 𝓤 H A mem run κ q x) passed (λ u.
-      use1 W (later (some (λ (st : Stack). ((‵ (flft κ q) ⊛ ‵ ftrue) ⊛ ‵ (St.the-row .own st (u ∷ []))) ⊛
-      raw (ensured 𝓤 H A gather.ended (gather.clauses 𝓤 H A mem run) (κ, tt) (x, tt) tt st)))) (id⊢ 𝓤 _) $ await ! tt $ pick ! (λ st.
+      use1 W (later (some (λ (st : Stack). ((‵ (flft κ q) ⊛ ‵ ftrue) ⊛ ‵ (St.the-row .own st (u ∷ [])))
+      ⊛ raw (ensured 𝓤 H A gather.ended (gather.clauses 𝓤 H A mem run) (κ, tt) (x, tt) tt st)))) (id⊢ 𝓤 _) $ await ! tt $ pick ! (λ st.
       split ! $ move ! (1 ∷ []) $ use1 W (raw (fact 𝓤 (st ≡ gathered (x .now)))) (said st) $ heard ! (st ≡ gathered (x .now)) (λ g.
       split ! $ split ! $ move ! (2 ∷ []) $
       -- [the result; the token; true; what the slice owns; the rest]

@@ -103,8 +103,8 @@ module _ {M : Type 1} (𝓤 : URA M) (H : Heap 𝓤) (A : Atoms 𝓤) (mem : Mem
   abbrev Few : Contract 𝓤
   Few = tripleOf 𝓤 H A few.signature (few.spec 𝓤 H A mem run)
 
-module _ {M : Type 1} (𝓤 : URA M) (H : Heap 𝓤) (A : Atoms 𝓤) (W : Given 𝓤 H A) (mem : Memory → SProp 𝓤) (run : Routine
-    → Fun 𝓤) (κ : Lft) (q : Share) (b o : ℕ) (γ : GName) (ys : List Layer) where
+module _ {M : Type 1} (𝓤 : URA M) (H : Heap 𝓤) (A : Atoms 𝓤) (W : Given 𝓤 H A) (mem : Memory → SProp 𝓤)
+    (run : Routine → Fun 𝓤) (κ : Lft) (q : Share) (b o : ℕ) (γ : GName) (ys : List Layer) where
   abbrev n : ℕ
   n = length ys
 
@@ -232,8 +232,8 @@ module _ {M : Type 1} (𝓤 : URA M) (H : Heap 𝓤) (A : Atoms 𝓤) (W : Given
         -- [what is asked; what the slice owns; _3; _4; _5; _6; _1; _2; _0; that each local dies]
         calls-at ! (fmOf 𝓤 H (W .laws) 𝓣) (Put 𝓤 H A mem run) known (to-put st k) (and-then ! (load ! (from ! (stop !)) (look ! 6 refl))
         (and-then ! (load ! (from ! (stop !)) (look ! 2 refl)) (and-then ! (load ! (from ! (stop !)) (look ! 3 refl)) (no-more !)))) (λ u.
-        use1 W (later (some (λ (r : Stack). ((‵ (flft κ q) ⊛ ‵ ftrue) ⊛ ‵ (St.the-row .own r (u ∷ []))) ⊛
-        raw (ensured 𝓤 H A put.ended (put.clauses 𝓤 H A mem run) (κ, tt) (x, (st, (k, tt))) tt r)))) (id⊢ 𝓤 _) $ await ! tt $ pick ! (λ r.
+        use1 W (later (some (λ (r : Stack). ((‵ (flft κ q) ⊛ ‵ ftrue) ⊛ ‵ (St.the-row .own r (u ∷ [])))
+        ⊛ raw (ensured 𝓤 H A put.ended (put.clauses 𝓤 H A mem run) (κ, tt) (x, (st, (k, tt))) tt r)))) (id⊢ 𝓤 _) $ await ! tt $ pick ! (λ r.
         split ! $ move ! (1 ∷ []) $ use1 W (raw (fact 𝓤 (Gathering r ys (suc k)))) (said-put st k r) $
         heard ! (Gathering r ys (suc k)) (λ g′. split ! $ split ! $ move ! (2 ∷ []) $
         -- [the result; the token; true; what the slice owns; _3; _4; _5; _6; _1; _2; _0; …]
@@ -329,8 +329,8 @@ module _ {M : Type 1} (𝓤 : URA M) (H : Heap 𝓤) (A : Atoms 𝓤) (W : Given
       use0 W (raw (None 𝓤 H A mem run .pre to-none)) (asked-none (gn .0)) $
       calls-at ! (fmOf 𝓤 H (W .laws) 𝓣) (None 𝓤 H A mem run) known-none to-none (and-then ! (load ! (from ! (stop !)) (look ! 3 refl))
       (no-more !)) (λ w.
-      use1 W (later (some (λ (r : Stack). (‵ ftrue ⊛ ‵ (St.the-row .own r (w ∷ []))) ⊛
-      raw (ensured 𝓤 H A none.ended (none.clauses 𝓤 H A mem run) tt (n, tt) tt r)))) (id⊢ 𝓤 _) $ await ! tt $ pick ! (λ st.
+      use1 W (later (some (λ (r : Stack). (‵ ftrue ⊛ ‵ (St.the-row .own r (w ∷ [])))
+      ⊛ raw (ensured 𝓤 H A none.ended (none.clauses 𝓤 H A mem run) tt (n, tt) tt r)))) (id⊢ 𝓤 _) $ await ! tt $ pick ! (λ st.
       split ! $ move ! (1 ∷ []) $ use1 W (raw (fact 𝓤 (Begun st))) (said-none st) $ heard ! (Begun st) (λ g. split ! $ move ! (1 ∷ []) $
       peeks ! St.the-row (Is St.the-row) (shows 𝓤 H A St.the-row) st (w ∷ []) (λ is.
       land ! (from ! (stop !)) (init ! 8 refl (LL.lawful St.the-type St′.the-laws 𝓤 H A W .typed st _ is .0)) $
@@ -353,8 +353,8 @@ module _ {M : Type 1} (𝓤 : URA M) (H : Heap 𝓤) (A : Atoms 𝓤) (W : Given
       (walk 𝓤 H A W mem run (κs .0) (qs .0) (a .0 .ptr .0) (a .0 .ptr .1) (a .0 .name) (a .0 .now) 𝓣 known-put known-none known-few
       (are .0 .0 .1)))
 
-gather-meets : {M : Type 1} (𝓤 : URA M) (H : Heap 𝓤) (A : Atoms 𝓤) (W : Given 𝓤 H A) (mem : Memory → SProp 𝓤) (run : Routine
-    → Fun 𝓤) (𝓣 : Tables 𝓤 H)
+gather-meets : {M : Type 1} (𝓤 : URA M) (H : Heap 𝓤) (A : Atoms 𝓤) (W : Given 𝓤 H A) (mem : Memory → SProp 𝓤)
+    (run : Routine → Fun 𝓤) (𝓣 : Tables 𝓤 H)
     → Triple 𝓤 (𝓣 .C #entries·put) (Put 𝓤 H A mem run) → Triple 𝓤 (𝓣 .C #entries·no-layers) (None 𝓤 H A mem run)
     → Triple 𝓤 (𝓣 .C #entries·up-to-20) (Few 𝓤 H A mem run)
     → Meets 𝓤 H A gather.signature (WpFn 𝓤 H (𝓣 .C) (𝓣 .Λ) code.function) (gather.spec 𝓤 H A mem run)

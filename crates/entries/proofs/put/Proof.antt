@@ -69,8 +69,8 @@ module _ {M : Type 1} (𝓤 : URA M) (H : Heap 𝓤) (A : Atoms 𝓤) (mem : Mem
   abbrev With : Contract 𝓤
   With = tripleOf 𝓤 H A with.signature (with.spec 𝓤 H A mem run)
 
-module _ {M : Type 1} (𝓤 : URA M) (H : Heap 𝓤) (A : Atoms 𝓤) (W : Given 𝓤 H A) (mem : Memory → SProp 𝓤) (run : Routine
-    → Fun 𝓤) (κ : Lft) (q : Share) (b o : ℕ) (γ : GName) (ys : List Layer) (st : Stack) (k : ℕ) where
+module _ {M : Type 1} (𝓤 : URA M) (H : Heap 𝓤) (A : Atoms 𝓤) (W : Given 𝓤 H A) (mem : Memory → SProp 𝓤)
+    (run : Routine → Fun 𝓤) (κ : Lft) (q : Share) (b o : ℕ) (γ : GName) (ys : List Layer) (st : Stack) (k : ℕ) where
   abbrev x : RefT (List Layer)
   x = record { ptr = (b, o); name = γ; now = ys }
 
@@ -158,8 +158,8 @@ module _ {M : Type 1} (𝓤 : URA M) (H : Heap 𝓤) (A : Atoms 𝓤) (W : Given
         use0 W (raw (With 𝓤 H A mem run .pre to)) (asked few gk is ie) $
         calls-at ! fm (With 𝓤 H A mem run) known to (and-then ! (load ! (from ! (stop !)) (look ! 13 refl))
         (and-then ! (load ! (from ! (stop !)) (look ! 11 refl)) (and-then ! (load ! (from ! (stop !)) (look ! 5 refl)) (no-more !)))) (λ u.
-        use1 W (later (some (λ (r : Stack). (‵ ftrue ⊛ ‵ (St.the-row .own r (u ∷ []))) ⊛
-        raw (ensured 𝓤 H A with.ended (with.clauses 𝓤 H A mem run) tt (st, (k, (e, tt))) tt r)))) (id⊢ 𝓤 _) $ await ! tt $ pick ! (λ r.
+        use1 W (later (some (λ (r : Stack). (‵ ftrue ⊛ ‵ (St.the-row .own r (u ∷ [])))
+        ⊛ raw (ensured 𝓤 H A with.ended (with.clauses 𝓤 H A mem run) tt (st, (k, (e, tt))) tt r)))) (id⊢ 𝓤 _) $ await ! tt $ pick ! (λ r.
         split ! $ move ! (1 ∷ []) $ use1 W (raw (fact 𝓤 (Said r))) (said r) $ heard ! (Said r) (λ f. split ! $ move ! (1 ∷ []) $
         -- [the result; true; what the slice owns; the token; true; the rest; _6; …; room for _0; …]
         peeks ! St.the-row (Is St.the-row) (shows 𝓤 H A St.the-row) r (u ∷ []) (λ ir.
@@ -180,8 +180,8 @@ module _ {M : Type 1} (𝓤 : URA M) (H : Heap 𝓤) (A : Atoms 𝓤) (W : Given
       walk 𝓤 H A W mem run (κs .0) (qs .0) (a .0 .ptr .0) (a .0 .ptr .1) (a .0 .name) (a .0 .now) (a .1 .0) (a .1 .1 .0) C Λ fm known
       (are .0 .0 .1) (are .1 .0) (are .1 .1 .0 .1) (p .0) (p .1) (p .2)))
 
-put-meets : {M : Type 1} (𝓤 : URA M) (H : Heap 𝓤) (A : Atoms 𝓤) (W : Given 𝓤 H A) (mem : Memory → SProp 𝓤) (run : Routine
-    → Fun 𝓤) (𝓣 : Tables 𝓤 H)
+put-meets : {M : Type 1} (𝓤 : URA M) (H : Heap 𝓤) (A : Atoms 𝓤) (W : Given 𝓤 H A) (mem : Memory → SProp 𝓤)
+    (run : Routine → Fun 𝓤) (𝓣 : Tables 𝓤 H)
     → Triple 𝓤 (𝓣 .C #entries·with-layer) (With 𝓤 H A mem run)
     → Meets 𝓤 H A put.signature (WpFn 𝓤 H (𝓣 .C) (𝓣 .Λ) code.function) (put.spec 𝓤 H A mem run)
 put-meets 𝓤 H A W mem run 𝓣 known = walk-meets 𝓤 H A put.ended stayed W (

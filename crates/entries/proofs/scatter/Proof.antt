@@ -94,8 +94,8 @@ module _ {M : Type 1} (𝓤 : URA M) (H : Heap 𝓤) (A : Atoms 𝓤) (mem : Mem
   abbrev Few : Contract 𝓤
   Few = tripleOf 𝓤 H A few.signature (few.spec 𝓤 H A mem run)
 
-module _ {M : Type 1} (𝓤 : URA M) (H : Heap 𝓤) (A : Atoms 𝓤) (W : Given 𝓤 H A) (mem : Memory → SProp 𝓤) (run : Routine
-    → Fun 𝓤) (κ : Lft) (q : Share) (b o : ℕ) (γ : GName) (ys : List Layer) (st : Stack) (gn : Room Ly.the-row (length ys))
+module _ {M : Type 1} (𝓤 : URA M) (H : Heap 𝓤) (A : Atoms 𝓤) (W : Given 𝓤 H A) (mem : Memory → SProp 𝓤)
+    (run : Routine → Fun 𝓤) (κ : Lft) (q : Share) (b o : ℕ) (γ : GName) (ys : List Layer) (st : Stack) (gn : Room Ly.the-row (length ys))
     (is : Is St.the-row st (stack-val st ∷ [])) where
   abbrev n : ℕ
   n = length ys
@@ -214,8 +214,8 @@ module _ {M : Type 1} (𝓤 : URA M) (H : Heap 𝓤) (A : Atoms 𝓤) (W : Given
         use0 W (raw (LayerAt 𝓤 H A mem run .pre (to-layer k))) (asked-layer k fits) $
         calls-at ! (fmOf 𝓤 H (W .laws) 𝓣) (LayerAt 𝓤 H A mem run) known (to-layer k) (and-then ! (load ! (from ! (stop !)) (look ! 10 refl))
         (and-then ! (load ! (from ! (stop !)) (look ! 2 refl)) (no-more !))) (λ u.
-        use1 W (later (some (λ (r : Layer). (‵ ftrue ⊛ ‵ (Ly.the-row .own r (u ∷ []))) ⊛
-        raw (ensured 𝓤 H A layer.ended (layer.clauses 𝓤 H A mem run) tt (st, (k, tt)) tt r)))) (id⊢ 𝓤 _) $ await ! tt $ pick ! (λ e.
+        use1 W (later (some (λ (r : Layer). (‵ ftrue ⊛ ‵ (Ly.the-row .own r (u ∷ [])))
+        ⊛ raw (ensured 𝓤 H A layer.ended (layer.clauses 𝓤 H A mem run) tt (st, (k, tt)) tt r)))) (id⊢ 𝓤 _) $ await ! tt $ pick ! (λ e.
         split ! $ move ! (1 ∷ []) $ use1 W (raw (fact 𝓤 (e ≡ entry (laid st) k))) (said-layer k e) $ heard ! (e ≡ entry (laid st) k) (λ f.
         split ! $ move ! (1 ∷ []) $
         -- [the entry; true; the row; _4; _6; _7; _8; _9; …]
@@ -358,8 +358,8 @@ module _ {M : Type 1} (𝓤 : URA M) (H : Heap 𝓤) (A : Atoms 𝓤) (W : Given
       (walk 𝓤 H A W mem run (κs .0) (qs .0) (a .0 .ptr .0) (a .0 .ptr .1) (a .0 .name) (a .0 .now) (a .1 .0) (are .0 .0 .1)
       (are .1 .0) 𝓣 known-layer known-few))
 
-scatter-meets : {M : Type 1} (𝓤 : URA M) (H : Heap 𝓤) (A : Atoms 𝓤) (W : Given 𝓤 H A) (mem : Memory → SProp 𝓤) (run : Routine
-    → Fun 𝓤) (𝓣 : Tables 𝓤 H)
+scatter-meets : {M : Type 1} (𝓤 : URA M) (H : Heap 𝓤) (A : Atoms 𝓤) (W : Given 𝓤 H A) (mem : Memory → SProp 𝓤)
+    (run : Routine → Fun 𝓤) (𝓣 : Tables 𝓤 H)
     → Triple 𝓤 (𝓣 .C #stack·layer-at) (LayerAt 𝓤 H A mem run) → Triple 𝓤 (𝓣 .C #entries·written-of) (Few 𝓤 H A mem run)
     → Meets 𝓤 H A scatter.signature (WpFn 𝓤 H (𝓣 .C) (𝓣 .Λ) code.function) (scatter.spec 𝓤 H A mem run)
 scatter-meets 𝓤 H A W mem run 𝓣 known-layer known-few = walk-meets 𝓤 H A scatter.ended stayed W

@@ -82,8 +82,8 @@ module _ {M : Type 1} (𝓤 : URA M) (H : Heap 𝓤) (A : Atoms 𝓤) (mem : Mem
   abbrev Triangles : Contract 𝓤
   Triangles = tripleOf 𝓤 H A triangles.signature (triangles.spec 𝓤 H A mem run)
 
-module _ {M : Type 1} (𝓤 : URA M) (H : Heap 𝓤) (A : Atoms 𝓤) (W : Given 𝓤 H A) (mem : Memory → SProp 𝓤) (run : Routine
-    → Fun 𝓤) (κ κ′ κ″ κ‴ : Lft) (q q′ q″ q‴ : Share) (x : RefT (List Layer)) (c : RefT (List ℤ)) (s o : RefT (List ℕ)) where
+module _ {M : Type 1} (𝓤 : URA M) (H : Heap 𝓤) (A : Atoms 𝓤) (W : Given 𝓤 H A) (mem : Memory → SProp 𝓤)
+    (run : Routine → Fun 𝓤) (κ κ′ κ″ κ‴ : Lft) (q q′ q″ q‴ : Share) (x : RefT (List Layer)) (c : RefT (List ℤ)) (s o : RefT (List ℕ)) where
   -- the machine values
   abbrev v : Val
   v = sliceVal (x .ptr) (length (x .now))
@@ -188,8 +188,8 @@ module _ {M : Type 1} (𝓤 : URA M) (H : Heap 𝓤) (A : Atoms 𝓤) (W : Given
         calls-at ! fm (Triangles 𝓤 H A mem run) known (to st) (and-then ! (load ! (from ! (stop !)) (look ! 8 refl))
         (and-then ! (load ! (from ! (stop !)) (look ! 14 refl)) (and-then ! (load ! (from ! (stop !)) (look ! 12 refl))
         (and-then ! (load ! (from ! (stop !)) (look ! 4 refl)) (no-more !))))) (λ u.
-        use1 W (later (some (λ (r : Meshed). (Toks ⊛ ‵ (S.the-row .own r (u ∷ []))) ⊛
-        raw (ensured 𝓤 H A triangles.ended (triangles.clauses 𝓤 H A mem run) (κ′, (κ″, (κ‴, tt))) (st, (c, (s, (o, tt)))) tt r)))) (id⊢ 𝓤 _) $
+        use1 W (later (some (λ (r : Meshed). (Toks ⊛ ‵ (S.the-row .own r (u ∷ [])))
+        ⊛ raw (ensured 𝓤 H A triangles.ended (triangles.clauses 𝓤 H A mem run) (κ′, (κ″, (κ‴, tt))) (st, (c, (s, (o, tt)))) tt r)))) (id⊢ 𝓤 _) $
         await ! tt $ pick ! (λ r.
         -- what is ensured, at some last list
         split ! $ move ! (1 ∷ []) $
@@ -225,8 +225,8 @@ module _ {M : Type 1} (𝓤 : URA M) (H : Heap 𝓤) (A : Atoms 𝓤) (W : Given
       (qs .1 .0) (qs .1 .1 .0) (qs .1 .1 .1 .0) (a .0) (a .1 .0) (a .1 .1 .0) (a .1 .1 .1 .0) C Λ fm gather-known known (are .0) (are .1 .0)
       (are .1 .1 .0) (are .1 .1 .1 .0)))
 
-entry-meets : {M : Type 1} (𝓤 : URA M) (H : Heap 𝓤) (A : Atoms 𝓤) (W : Given 𝓤 H A) (mem : Memory → SProp 𝓤) (run : Routine
-    → Fun 𝓤) (𝓣 : Tables 𝓤 H)
+entry-meets : {M : Type 1} (𝓤 : URA M) (H : Heap 𝓤) (A : Atoms 𝓤) (W : Given 𝓤 H A) (mem : Memory → SProp 𝓤)
+    (run : Routine → Fun 𝓤) (𝓣 : Tables 𝓤 H)
     → Triple 𝓤 (𝓣 .C #entries·gather) (Gather 𝓤 H A mem run) → Triple 𝓤 (𝓣 .C #mesh·triangles) (Triangles 𝓤 H A mem run)
     → Meets 𝓤 H A entry.signature (WpFn 𝓤 H (𝓣 .C) (𝓣 .Λ) code.function) (entry.spec 𝓤 H A mem run)
 entry-meets 𝓤 H A W mem run 𝓣 gather-known known = walk-meets 𝓤 H A entry.ended stayed W (

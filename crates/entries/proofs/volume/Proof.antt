@@ -78,8 +78,8 @@ module _ {M : Type 1} (𝓤 : URA M) (H : Heap 𝓤) (A : Atoms 𝓤) (mem : Mem
   abbrev Volume : Contract 𝓤
   Volume = tripleOf 𝓤 H A volume.signature (volume.spec 𝓤 H A mem run)
 
-module _ {M : Type 1} (𝓤 : URA M) (H : Heap 𝓤) (A : Atoms 𝓤) (W : Given 𝓤 H A) (mem : Memory → SProp 𝓤) (run : Routine
-    → Fun 𝓤) (κ κ′ κ″ : Lft) (q q′ q″ : Share) (x : RefT (List Layer)) (c : RefT (List ℤ)) (s : RefT (List ℕ)) where
+module _ {M : Type 1} (𝓤 : URA M) (H : Heap 𝓤) (A : Atoms 𝓤) (W : Given 𝓤 H A) (mem : Memory → SProp 𝓤)
+    (run : Routine → Fun 𝓤) (κ κ′ κ″ : Lft) (q q′ q″ : Share) (x : RefT (List Layer)) (c : RefT (List ℤ)) (s : RefT (List ℕ)) where
   -- the machine values
   abbrev v : Val
   v = sliceVal (x .ptr) (length (x .now))
@@ -165,8 +165,8 @@ module _ {M : Type 1} (𝓤 : URA M) (H : Heap 𝓤) (A : Atoms 𝓤) (W : Given
         -- [what is asked; what the others own; κ's token; what the entries own; _4; …]
         calls-at ! fm (Volume 𝓤 H A mem run) known (to st) (and-then ! (load ! (from ! (stop !)) (look ! 4 refl))
         (and-then ! (load ! (from ! (stop !)) (look ! 8 refl)) (and-then ! (load ! (from ! (stop !)) (look ! 6 refl)) (no-more !)))) (λ u.
-        use1 W (later (some (λ (r : Volumed). (Toks ⊛ ‵ (S.the-row .own r (u ∷ []))) ⊛
-        raw (ensured 𝓤 H A volume.ended (volume.clauses 𝓤 H A mem run) (κ′, (κ″, tt)) (st, (c, (s, tt))) tt r)))) (id⊢ 𝓤 _) $ await ! tt $
+        use1 W (later (some (λ (r : Volumed). (Toks ⊛ ‵ (S.the-row .own r (u ∷ [])))
+        ⊛ raw (ensured 𝓤 H A volume.ended (volume.clauses 𝓤 H A mem run) (κ′, (κ″, tt)) (st, (c, (s, tt))) tt r)))) (id⊢ 𝓤 _) $ await ! tt $
         pick ! (λ r.
         split ! $ move ! (1 ∷ []) $ use1 W (raw (fact 𝓤 (Said st r))) (said st r) $ heard ! (Said st r) (λ f. split ! $ move ! (1 ∷ []) $
         -- [the result; the other tokens; what the others own; κ's token; what the entries own; _4; …; _3; …; _2; …; _1; …; room for _0; …]
@@ -189,8 +189,8 @@ module _ {M : Type 1} (𝓤 : URA M) (H : Heap 𝓤) (A : Atoms 𝓤) (W : Given
       (λ κs qs bounds a g are. via 𝓤 _ (fst∗ 𝓤 _ (emp 𝓤)) (walk 𝓤 H A W mem run (κs .0) (κs .1 .0) (κs .1 .1 .0) (qs .0) (qs .1 .0)
       (qs .1 .1 .0) (a .0) (a .1 .0) (a .1 .1 .0) C Λ fm gather-known known (are .0) (are .1 .0) (are .1 .1 .0)))
 
-entry-meets : {M : Type 1} (𝓤 : URA M) (H : Heap 𝓤) (A : Atoms 𝓤) (W : Given 𝓤 H A) (mem : Memory → SProp 𝓤) (run : Routine
-    → Fun 𝓤) (𝓣 : Tables 𝓤 H)
+entry-meets : {M : Type 1} (𝓤 : URA M) (H : Heap 𝓤) (A : Atoms 𝓤) (W : Given 𝓤 H A) (mem : Memory → SProp 𝓤)
+    (run : Routine → Fun 𝓤) (𝓣 : Tables 𝓤 H)
     → Triple 𝓤 (𝓣 .C #entries·gather) (Gather 𝓤 H A mem run) → Triple 𝓤 (𝓣 .C #mesh·volume) (Volume 𝓤 H A mem run)
     → Meets 𝓤 H A entry.signature (WpFn 𝓤 H (𝓣 .C) (𝓣 .Λ) code.function) (entry.spec 𝓤 H A mem run)
 entry-meets 𝓤 H A W mem run 𝓣 gather-known known = walk-meets 𝓤 H A entry.ended stayed W (
