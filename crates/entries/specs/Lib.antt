@@ -1,2 +1,4 @@
--- Entries, gathered one by one from a lent slice.
+-- 01, "Traces and layers": "A stack is a list of layer entries, each holding plane, first point and number of points, over one common
+-- coordinate list." What it means to gather such a list, and to write one.
 pub mod Gathering
+pub mod Scattered

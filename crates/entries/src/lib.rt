@@ -1,17 +1,17 @@
-// The entry points over a lent slice of layer entries.
+// The entry points over a lent slice of layer entries. Each gathers the entries into a stack, which is passed by value, and calls the
+// function of the same name on it: all that is judged, measured and written is proved there.
 ghost use mathlib.Core.Path.{_≡_};
 ghost use mathlib.Core.List.{List};
-ghost use Prim.Native.Nat.{ℕ, suc, _≤_, _<_, min};
+ghost use Prim.Native.Nat.{suc, _<_, min};
 ghost use lib.ListN.{length};
 ghost use Rattle.stack.specs.declared.Layer.{Layer};
-ghost use Rattle.stack.specs.declared.Stack.{Stack};
 ghost use Rattle.stack.specs.Entries.{entry};
-ghost use Rattle.stack.specs.Gathered.{Gathers};
 ghost use Rattle.stack.specs.Faults.{StackJudged};
 ghost use Rattle.stack.specs.Strips.{StripsAnswered};
 ghost use Rattle.bands.specs.Bands.{BandsAnswer};
 ghost use Rattle.mesh.specs.Meshing.{Measured, Triangled};
-ghost use Rattle.entries.specs.Gathering.{Gathering};
+ghost use Rattle.entries.specs.Gathering.{gathered, Gathering};
+ghost use Rattle.entries.specs.Scattered.{written, scattered};
 use bands::Banded;
 use mesh::Meshed;
 use mesh::Volumed;
@@ -19,10 +19,43 @@ use stack::Layer;
 use stack::Stack;
 use stack::StackJudgement;
 use stack::StripsJudgement;
+use stack::layer_at;
 
-// The first 20 entries, field by field, and how many there are.
+pub fn judge_stack(layers: &[Layer], coords: &[i32]) -> StackJudgement
+    ensures { λ r. ⌜ StackJudged (now (layers .entry)) (now (coords .entry)) r ⌝ }
+{
+    stack::judge_stack(gather(layers), coords)
+}
+
+pub fn judge_strips(layers: &[Layer], strips: &[u8]) -> StripsJudgement
+    ensures { λ r. ⌜ StripsAnswered (now (layers .entry)) (now (strips .entry)) r ⌝ }
+{
+    stack::judge_strips(gather(layers), strips)
+}
+
+pub fn best_strips(layers: &[Layer], coords: &[i32], strips: &mut [u8], work: &mut [u8]) -> Banded
+    ensures { λ r. ⌜ BandsAnswer (now (layers .entry)) (now (coords .entry))
+        (now (strips .entry)) (now (work .entry)) (now (strips .exit)) (now (work .exit)) r ⌝ }
+{
+    bands::best_strips(gather(layers), coords, strips, work)
+}
+
+pub fn volume(layers: &[Layer], coords: &[i32], strips: &[u8]) -> Volumed
+    ensures { λ r. ⌜ Measured (now (layers .entry)) (now (coords .entry)) (now (strips .entry)) r ⌝ }
+{
+    mesh::volume(gather(layers), coords, strips)
+}
+
+pub fn triangles(layers: &[Layer], coords: &[i32], strips: &[u8], out: &mut [u32]) -> Meshed
+    ensures { λ r. ⌜ Triangled (now (layers .entry)) (now (coords .entry)) (now (strips .entry))
+        (now (out .entry)) (now (out .exit)) r ⌝ }
+{
+    mesh::triangles(gather(layers), coords, strips, out)
+}
+
+// The first 20 entries, field by field, zeros past the last, and how many entries there are.
 pub fn gather(layers: &[Layer]) -> Stack
-    ensures { λ r. ⌜ Gathers r (now (layers .entry)) ⌝ }
+    ensures { λ r. ⌜ r ≡ gathered (now (layers .entry)) ⌝ }
 {
     let end = up_to_20(layers.len());
     let mut stack = no_layers(layers.len());
@@ -32,6 +65,18 @@ pub fn gather(layers: &[Layer]) -> Stack
         k += 1;
     }
     stack
+}
+
+// The entries of a stack, at the front of the slice, as many as it holds and as fit. The rest of the slice is as before.
+pub fn scatter(layers: &mut [Layer], stack: Stack)
+    ensures { λ _. ⌜ now (layers .exit) ≡ scattered stack (now (layers .entry)) ⌝ }
+{
+    let end = written_of(stack, layers.len());
+    let mut k = 0;
+    while k < end {
+        layers[k] = layer_at(stack, k);
+        k += 1;
+    }
 }
 
 // Entry `k`, put behind those that are gathered.
@@ -70,34 +115,9 @@ fn up_to_20(n: usize) -> usize
     if n < 20 { n } else { 20 }
 }
 
-// Takes every list of entries and every list of coordinates.
-pub fn judge_stack(layers: &[Layer], coords: &[i32]) -> StackJudgement
-    ensures { λ r. ⌜ StackJudged (now (layers .entry)) (now (coords .entry)) r ⌝ }
+fn written_of(stack: Stack, room: usize) -> usize
+    ensures { λ r. ⌜ r ≡ written stack room ⌝ }
 {
-    stack::judge_stack(gather(layers), coords)
-}
-
-pub fn judge_strips(layers: &[Layer], strips: &[u8]) -> StripsJudgement
-    ensures { λ r. ⌜ StripsAnswered (now (layers .entry)) (now (strips .entry)) r ⌝ }
-{
-    stack::judge_strips(gather(layers), strips)
-}
-
-pub fn volume(layers: &[Layer], coords: &[i32], strips: &[u8]) -> Volumed
-    ensures { λ r. ⌜ Measured (now (layers .entry)) (now (coords .entry)) (now (strips .entry)) r ⌝ }
-{
-    mesh::volume(gather(layers), coords, strips)
-}
-
-pub fn triangles(layers: &[Layer], coords: &[i32], strips: &[u8], out: &mut [u32]) -> Meshed
-    ensures { λ r. ⌜ Triangled (now (layers .entry)) (now (coords .entry)) (now (strips .entry)) (now (out .entry)) (now (out .exit)) r ⌝ }
-{
-    mesh::triangles(gather(layers), coords, strips, out)
-}
-
-pub fn best_strips(layers: &[Layer], coords: &[i32], strips: &mut [u8], work: &mut [u8]) -> Banded
-    ensures { λ r. ⌜ BandsAnswer (now (layers .entry)) (now (coords .entry))
-        (now (strips .entry)) (now (work .entry)) (now (strips .exit)) (now (work .exit)) r ⌝ }
-{
-    bands::best_strips(gather(layers), coords, strips, work)
+    let n = up_to_20(stack.layers);
+    if n < room { n } else { room }
 }

@@ -105,7 +105,7 @@ short-long : {m n : ℕ} → m < n → n ≤ m → ⊥
 short-long h g = omega arith
 
 module _ {es : List Layer} {c : List ℤ} {l : List ℕ} where
-  measured-once : {r s : Volumed} → Measured es c l r → Measured es c l s → r ≡ s
+  pub measured-once : {r s : Volumed} → Measured es c l r → Measured es c l s → r ≡ s
   measured-once (stack p) (stack q) = ap volume-is.Refused (refused-once p q)
   measured-once (stack p) (strips a _) = absurd (refused-not-accepted p a)
   measured-once (stack p) (six a _) = absurd (refused-not-accepted p a)
@@ -116,7 +116,7 @@ module _ {es : List Layer} {c : List ℤ} {l : List ℕ} where
   measured-once (six _ s) (strips _ q) = absurd (strips-refused-not-right q s)
   measured-once (six _ _) (six _ _) = refl
 
-  triangled-once : {out new old : List ℕ} {r s : Meshed} → Triangled es c l out new r → Triangled es c l out old s → (new ≡ old) × (r ≡ s)
+  pub triangled-once : {out new old : List ℕ} {r s : Meshed} → Triangled es c l out new r → Triangled es c l out old s → (new ≡ old) × (r ≡ s)
   triangled-once (stack p) (stack q) = (refl, ap mesh-is.Refused (refused-once p q))
   triangled-once (stack p) (room a _) = absurd (refused-not-accepted p a)
   triangled-once (stack p) (strips a _ _) = absurd (refused-not-accepted p a)

@@ -1,6 +1,7 @@
--- `entries::no_layers` meets its contract: of no entries each field stands. Assumes nothing.
+-- `entries::no_layers` meets its contract: there are no entries yet, and zeros. Assumes nothing.
 use mathlib.Core.Path.{refl}
-use native.Mathlib.Omega.{arith}
+use lib.IntN.{pos}
+use Rattle.entries.proofs.GatherLaws.{same-at}
 use Rattle.entries.proofs.no_layers.Statement.{statement}
 use Rattle.entries.proofs.no_layers.Tie as tie
 
@@ -10,9 +11,9 @@ returns c = λ es e. record {
   planes = refl;
   firsts = refl;
   counts = refl;
-  plane = λ k l. absurd (omega arith);
-  first = λ k l. absurd (omega arith);
-  count = λ k l. absurd (omega arith);
+  plane = λ k. same-at 20 k (pos 0);
+  first = λ k. same-at 20 k 0;
+  count = λ k. same-at 20 k 0;
 }
 
 pub no-layers-spec : {M : Type 1} → statement M

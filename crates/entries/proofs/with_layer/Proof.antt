@@ -5,8 +5,6 @@ use Rattle.entries.proofs.GatherLaws.{one-more}
 use borrow.Author.Needs.{needs}
 use Rattle.entries.proofs.with_layer.Statement.{statement}
 use Rattle.entries.proofs.with_layer.Tie as tie
-use Rattle.entries.proofs.with_layer.Reads as reads
-use Rattle.entries.proofs.with_layer.Lts as lts
 
 -- src/lib.rt:43:5
 mul-plane : tie.Need-mul-plane
