@@ -10,11 +10,13 @@ ghost use Rattle.stack.specs.Faults.{StackJudged};
 ghost use Rattle.stack.specs.Strips.{StripsAnswered};
 ghost use Rattle.bands.specs.Bands.{BandsAnswer};
 ghost use Rattle.mesh.specs.Meshing.{Measured, Triangled};
+ghost use Rattle.register.specs.Writing.{WriteAnswer};
 ghost use Rattle.entries.specs.Gathering.{gathered, Gathering};
 ghost use Rattle.entries.specs.Scattered.{written, scattered};
 use bands::Banded;
 use mesh::Meshed;
 use mesh::Volumed;
+use register::Written;
 use stack::Layer;
 use stack::Stack;
 use stack::StackJudgement;
@@ -51,6 +53,14 @@ pub fn triangles(layers: &[Layer], coords: &[i32], strips: &[u8], out: &mut [u32
         (now (out .entry)) (now (out .exit)) r ⌝ }
 {
     mesh::triangles(gather(layers), coords, strips, out)
+}
+
+// The register file of the entries with their strips.
+pub fn write(layers: &[Layer], coords: &[i32], strips: &[u8], out: &mut [u8]) -> Written
+    ensures { λ r. ⌜ WriteAnswer (now (layers .entry)) (now (coords .entry)) (now (strips .entry))
+        (now (out .entry)) (now (out .exit)) r ⌝ }
+{
+    register::write(gather(layers), coords, strips, out)
 }
 
 // The first 20 entries, field by field, zeros past the last, and how many entries there are.
