@@ -69,14 +69,7 @@ use Rattle.entries.proofs.best_strips.Statement as stated
 use Rattle.entries.proofs.best_strips.Code as code
 
 abbrev stayed : Stays (entry.ended .signature .params) (entry.ended .kept)
-stayed = (
-  stay-none-slice (0 ∷ []) tt (plain (λ _. Ly.the-row)) yes,
-  (
-    stay-none-slice (1 ∷ []) tt (plain (λ _.
-        i32)) yes,
-    (gave-slice (2 ∷ []) tt (plain (λ _. u8)), (gave-slice (3 ∷ []) tt (plain (λ _. u8)), tt)),
-  ),
-)
+stayed = (stay-none-slice (0 ∷ []) tt (plain (λ _. Ly.the-row)) yes, (stay-none-slice (1 ∷ []) tt (plain (λ _. i32)) yes, (gave-slice (2 ∷ []) tt (plain (λ _. u8)), (gave-slice (3 ∷ []) tt (plain (λ _. u8)), tt))))
 
 module _ {M : Type 1} (𝓤 : URA M) (H : Heap 𝓤) (A : Atoms 𝓤) (mem : Memory → SProp 𝓤) (run : Routine → Fun 𝓤) where
   -- the contract that the proof cites, beside `gather`'s
@@ -222,13 +215,8 @@ module _ {M : Type 1} (𝓤 : URA M) (H : Heap 𝓤) (A : Atoms 𝓤) (W : Given
       → Triple 𝓤 (C #bands·best-strips) (Bands 𝓤 H A mem run)
       → Walks 𝓤 H A entry.ended stayed (WpFn 𝓤 H C Λ code.function) (entry.clauses 𝓤 H A mem run)
   entry-walks C Λ fm gather-known known = walked 𝓤 H A entry.ended stayed (entry.clauses 𝓤 H A mem run) (WpFn 𝓤 H C Λ code.function)
-      (λ κs. (slice-vals, (slice-vals, (slice-vals, (slice-vals, tt))))) (λ κs. (
-        shr-slice-tells (named 0) (κs .0) Ly.the-row,
-        (
-          shr-slice-tells (named 1) (κs .1 .0) i32,
-          (mut-slice-tells (named 2) (κs .1 .1 .0) u8, (mut-slice-tells (named 3) (κs .1 .1 .1 .0) u8, tt)),
-        ),
-      ))
+      (λ κs. (slice-vals, (slice-vals, (slice-vals, (slice-vals, tt)))))
+      (λ κs. (shr-slice-tells (named 0) (κs .0) Ly.the-row, (shr-slice-tells (named 1) (κs .1 .0) i32, (mut-slice-tells (named 2) (κs .1 .1 .0) u8, (mut-slice-tells (named 3) (κs .1 .1 .1 .0) u8, tt)))))
       (λ κs qs bounds a g are. via 𝓤 _ (fst∗ 𝓤 _ (emp 𝓤)) (walk 𝓤 H A W mem run (κs .0) (κs .1 .0) (κs .1 .1 .0) (κs .1 .1 .1 .0) (qs .0)
       (qs .1 .0) (qs .1 .1 .0) (qs .1 .1 .1 .0) (a .0) (a .1 .0) (a .1 .1 .0) (a .1 .1 .1 .0) C Λ fm gather-known known (are .0) (are .1 .0)
       (are .1 .1 .0) (are .1 .1 .1 .0)))
@@ -237,14 +225,9 @@ entry-meets : {M : Type 1} (𝓤 : URA M) (H : Heap 𝓤) (A : Atoms 𝓤) (W : 
     (run : Routine → Fun 𝓤) (𝓣 : Tables 𝓤 H)
     → Triple 𝓤 (𝓣 .C #entries·gather) (Gather 𝓤 H A mem run) → Triple 𝓤 (𝓣 .C #bands·best-strips) (Bands 𝓤 H A mem run)
     → Meets 𝓤 H A entry.signature (WpFn 𝓤 H (𝓣 .C) (𝓣 .Λ) code.function) (entry.spec 𝓤 H A mem run)
-entry-meets 𝓤 H A W mem run 𝓣 gather-known known = walk-meets 𝓤 H A entry.ended stayed W (
-  goes-none-slice 𝓤 H A W 4 (0 ∷ []) tt (plain (λ _. Ly.the-row)) yes,
-  (
-    goes-none-slice 𝓤 H A W 4 (1 ∷ []) tt (plain (λ _.
-        i32)) yes,
-    (goes-gave-slice 𝓤 H A W 4 2 tt (plain (λ _. u8)), (goes-gave-slice 𝓤 H A W 4 3 tt (plain (λ _. u8)), tt)),
-  ),
-)
+entry-meets 𝓤 H A W mem run 𝓣 gather-known known =
+    walk-meets 𝓤 H A entry.ended stayed W
+    (goes-none-slice 𝓤 H A W 4 (0 ∷ []) tt (plain (λ _. Ly.the-row)) yes, (goes-none-slice 𝓤 H A W 4 (1 ∷ []) tt (plain (λ _. i32)) yes, (goes-gave-slice 𝓤 H A W 4 2 tt (plain (λ _. u8)), (goes-gave-slice 𝓤 H A W 4 3 tt (plain (λ _. u8)), tt))))
     (entry.clauses 𝓤 H A mem run) (WpFn 𝓤 H (𝓣 .C) (𝓣 .Λ) code.function) (WpFn-mono 𝓤 H (W .laws) 𝓣 code.function)
     (entry-walks 𝓤 H A W mem run (𝓣 .C) (𝓣 .Λ) (fmOf 𝓤 H (W .laws) 𝓣) gather-known known)
 

@@ -240,10 +240,8 @@ module _ {M : Type 1} (𝓤 : URA M) (H : Heap 𝓤) (A : Atoms 𝓤) (W : Given
         peeks ! St.the-row (Is St.the-row) (shows 𝓤 H A St.the-row) r (u ∷ []) (λ ir.
         land ! (from ! (stop !)) (store ! 4 refl (LL.lawful St.the-type St′.the-laws 𝓤 H A W .typed r _ ir .0)) $
         rewrite ! 4 (λ (w : Val). ‵ (fat fullShare St′.mir l₃ 0 w)) (ap only (LL.tells St.the-type St′.the-laws r (u ∷ []) ir)) refl $
-        assigns-last ! (bin ! (load ! (from ! (stop !)) (look ! 5 refl)) (lit ! tt) (record {
-          fits =
-              up-fits k m small fm;
-        })) (from ! (stop !)) (store ! 5 refl (tt, record { fits = up-fits k m small fm })) $
+        assigns-last ! (bin ! (load ! (from ! (stop !)) (look ! 5 refl)) (lit ! tt) (record { fits = up-fits k m small fm }))
+        (from ! (stop !)) (store ! 5 refl (tt, record { fits = up-fits k m small fm })) $
         forget ! 7 refl $ rewrite ! 5 (λ (j : ℕ). ‵ (fat fullShare word l₄ 0 (vint w64 j))) (one-up k) refl $
         keep ! (4 ∷ 5 ∷ 6 ∷ 7 ∷ 3 ∷ 1 ∷ 8 ∷ 9 ∷ 10 ∷ 11 ∷ 12 ∷ 13 ∷ 14 ∷ 15 ∷ 16 ∷ 17 ∷ []) $
         by ! (go r (subst (Is St.the-row r) (LL.tells St.the-type St′.the-laws r (u ∷ []) ir) ir) g′)))))

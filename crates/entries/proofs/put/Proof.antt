@@ -131,16 +131,8 @@ module _ {M : Type 1} (𝓤 : URA M) (H : Heap 𝓤) (A : Atoms 𝓤) (W : Given
         pass1 ! (init ! 10 refl (tt, (tt, (record { fits = gn .0 }, tt)))) $
         pass1 ! (init ! 8 refl (LL.lawful St.the-type St′.the-laws 𝓤 H A W .typed st (stack-val st ∷ []) is .0)) $
         pass1 ! (init ! 6 refl (tt, record { fits = gk })) $ pass0 ! $
-        assigns ! (bin ! (load ! (from ! (stop !)) (look ! 6 refl)) (lit ! tt) (record {
-          fits =
-              place-fits k (length ys) l (gn .1);
-        })) (from ! (stop !)) (init ! 4 refl (
-          tt,
-          record {
-            fits =
-                place-fits k (length ys) l (gn .1);
-          },
-        )) $
+        assigns ! (bin ! (load ! (from ! (stop !)) (look ! 6 refl)) (lit ! tt) (record { fits = place-fits k (length ys) l (gn .1) }))
+        (from ! (stop !)) (init ! 4 refl (tt, record { fits = place-fits k (length ys) l (gn .1) })) $
         assigns ! (bin ! (load ! (from ! (fld ! refl (stop !))) (look-in ! 10 (sub ! 0 refl (whole !))))
         (load ! (from ! (stop !)) (look ! 4 refl)) tt) (from ! (stop !)) (init ! 2 refl (tt, tt)) $
         rewrite ! 2 (λ (p : ℕ). ‵ (fat fullShare tyPtr l₅ 0 (vptr b p))) (sym (place-is 24 o k)) refl $
@@ -166,7 +158,8 @@ module _ {M : Type 1} (𝓤 : URA M) (H : Heap 𝓤) (A : Atoms 𝓤) (W : Given
         land ! (from ! (stop !)) (init ! 18 refl (LL.lawful St.the-type St′.the-laws 𝓤 H A W .typed r _ ir .0)) $
         returns ! (look ! 18 refl) $ forget ! 6 refl $ forget ! 8 refl $ forget ! 10 refl $ forget ! 12 refl $ forget ! 14 refl $
         forget ! 16 refl $ forget ! 18 refl $
-        move ! (18 ∷ 19 ∷ []) $ free1 ! $ move ! (16 ∷ 17 ∷ []) $ free1 ! $ move ! (14 ∷ 15 ∷ []) $ free1 ! $ move ! (12 ∷ 13 ∷ []) $ free1 ! $
+        move ! (18 ∷ 19 ∷ []) $ free1 ! $ move ! (16 ∷ 17 ∷ []) $ free1 ! $ move ! (14 ∷ 15 ∷ []) $ free1 ! $ move ! (12 ∷ 13 ∷ []) $
+        free1 ! $
         move ! (10 ∷ 11 ∷ []) $ free1 ! $ move ! (8 ∷ 9 ∷ []) $ free1 ! $ move ! (6 ∷ 7 ∷ []) $ free1 ! $ free0 ! $
         keep ! (3 ∷ 2 ∷ 5 ∷ 0 ∷ []) $ by ! (exits r u (f ys held refl)))))))))))))))
 
@@ -184,14 +177,9 @@ put-meets : {M : Type 1} (𝓤 : URA M) (H : Heap 𝓤) (A : Atoms 𝓤) (W : Gi
     (run : Routine → Fun 𝓤) (𝓣 : Tables 𝓤 H)
     → Triple 𝓤 (𝓣 .C #entries·with-layer) (With 𝓤 H A mem run)
     → Meets 𝓤 H A put.signature (WpFn 𝓤 H (𝓣 .C) (𝓣 .Λ) code.function) (put.spec 𝓤 H A mem run)
-put-meets 𝓤 H A W mem run 𝓣 known = walk-meets 𝓤 H A put.ended stayed W (
-  goes-none-slice 𝓤 H A W 1 (0 ∷ []) tt (plain (λ _. Ly.the-row)) yes,
-  (
-    goes-none 𝓤 H A W 1 (λ _. St.the-row) yes (λ κs x f.
-        refl),
-    (goes-none 𝓤 H A W 1 (λ _. usize) yes (λ κs x f. refl), tt),
-  ),
-)
+put-meets 𝓤 H A W mem run 𝓣 known =
+    walk-meets 𝓤 H A put.ended stayed W
+    (goes-none-slice 𝓤 H A W 1 (0 ∷ []) tt (plain (λ _. Ly.the-row)) yes, (goes-none 𝓤 H A W 1 (λ _. St.the-row) yes (λ κs x f. refl), (goes-none 𝓤 H A W 1 (λ _. usize) yes (λ κs x f. refl), tt)))
     (put.clauses 𝓤 H A mem run) (WpFn 𝓤 H (𝓣 .C) (𝓣 .Λ) code.function) (WpFn-mono 𝓤 H (W .laws) 𝓣 code.function)
     (put-walks 𝓤 H A W mem run (𝓣 .C) (𝓣 .Λ) (fmOf 𝓤 H (W .laws) 𝓣) known)
 

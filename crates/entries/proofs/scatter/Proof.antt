@@ -124,11 +124,8 @@ module _ {M : Type 1} (𝓤 : URA M) (H : Heap 𝓤) (A : Atoms 𝓤) (W : Given
       suffices ! _ (ends-at 𝓤 H A scatter.ended stayed (scatter.clauses 𝓤 H A mem run) W bound vunit tt (zs, (tt, tt)) (l, (tt, tt))) $
       says ! e $
       nothing ! $ move ! (3 ∷ 0 ∷ []) $ join ! $ frame ! $ fjoin ! $
-      pureI ! (at-slice Ly.the-row (record { ptr = (b, o); name = γ; now = zs }) (v ∷ [])) (tt, (tt, tt)) (
-        ap (λ (m : ℕ).
-            sliceVal (b, o) m ∷ []) (sym l),
-        subst (Room Ly.the-row) (sym l) gn,
-      ) $ fjoin ! $
+      pureI ! (at-slice Ly.the-row (record { ptr = (b, o); name = γ; now = zs }) (v ∷ [])) (tt, (tt, tt))
+      (ap (λ (m : ℕ). sliceVal (b, o) m ∷ []) (sym l), subst (Room Ly.the-row) (sym l) gn) $ fjoin ! $
       nothing ! $ owned ! St.the-row (Is St.the-row) (LL.makes St.the-type St′.the-plain 𝓤 H A) st _ is $ fjoin ! $ move ! (1 ∷ 0 ∷ []) $
       fjoin ! $ frame ! $
       feqI ! (List Val) (vunit ∷ []) (vunit ∷ []) refl $ done !
@@ -223,10 +220,8 @@ module _ {M : Type 1} (𝓤 : URA M) (H : Heap 𝓤) (A : Atoms 𝓤) (W : Given
         land ! (from ! (stop !)) (init ! 5 refl (LL.lawful Ly.the-type Ly′.the-laws 𝓤 H A W .typed e _ ie .0)) $
         rewrite ! 5 (λ (w : Val). ‵ (fat fullShare Ly′.mir l₇ 0 w)) (ap only (LL.tells Ly.the-type Ly′.the-laws e (u ∷ []) ie)) refl $
         drop ! $ drop ! $
-        assigns ! (bin ! (load ! (from ! (stop !)) (look ! 1 refl)) (lit ! tt) (record {
-          fits =
-              fits-place;
-        })) (from ! (stop !)) (init ! 4 refl (tt, record { fits = fits-place })) $
+        assigns ! (bin ! (load ! (from ! (stop !)) (look ! 1 refl)) (lit ! tt) (record { fits = fits-place })) (from ! (stop !))
+        (init ! 4 refl (tt, record { fits = fits-place })) $
         assigns ! (bin ! (load ! (from ! (fld ! refl (stop !))) (look-in ! 11 (sub ! 0 refl (whole !))))
         (load ! (from ! (stop !)) (look ! 4 refl)) tt) (from ! (stop !)) (init ! 5 refl (tt, tt)) $
         rewrite ! 5 (λ (p : ℕ). ‵ (fat fullShare tyPtr l₉ 0 (vptr b p))) (sym (place-is 24 o k)) refl $
@@ -238,10 +233,8 @@ module _ {M : Type 1} (𝓤 : URA M) (H : Heap 𝓤) (A : Atoms 𝓤) (W : Given
         move ! (1 ∷ []) $ drop ! $ owned ! Ly.the-row (Is Ly.the-row) (LL.makes Ly.the-type Ly′.the-plain 𝓤 H A) e _ (made e u ie) $
         move ! (1 ∷ 0 ∷ []) $
         elem-put ! Ly.the-row fullShare zs k e (layer-val e ∷ []) b o inside $
-        assigns-last ! (bin ! (load ! (from ! (stop !)) (look ! 1 refl)) (lit ! tt) (record {
-          fits =
-              up-fits k m small fm;
-        })) (from ! (stop !)) (store ! 1 refl (tt, record { fits = up-fits k m small fm })) $
+        assigns-last ! (bin ! (load ! (from ! (stop !)) (look ! 1 refl)) (lit ! tt) (record { fits = up-fits k m small fm }))
+        (from ! (stop !)) (store ! 1 refl (tt, record { fits = up-fits k m small fm })) $
         forget ! 2 refl $ forget ! 3 refl $ forget ! 4 refl $ forget ! 5 refl $ by ! (go e f))))))
       where
         fits : k < 2 ^ 64
@@ -290,11 +283,8 @@ module _ {M : Type 1} (𝓤 : URA M) (H : Heap 𝓤) (A : Atoms 𝓤) (W : Given
     turn-at (suc t) k zs f =
         let small = before k t m (f .sum) in
         more k zs (Below (suc t)) small (scatter-inside st ys m em k zs (f .so) small) (f .so .long) (λ e q.
-        via 𝓤 (Inv t) (shown t (k + 1) (set zs k e) (record {
-          sum = left k t m (f .sum);
-          so =
-              scatter-more st ys m em k zs (f .so) e small q;
-        }))
+        via 𝓤 (Inv t) (shown t (k + 1) (set zs k e)
+        (record { sum = left k t m (f .sum); so = scatter-more st ys m em k zs (f .so) e small q }))
         (via 𝓤 (guard 𝓤 (t < suc t) (Inv t)) (guardI 𝓤 (t < suc t) (Inv t) (lt-suc-self t)) (exI 𝓤 (λ (u : ℕ).
         guard 𝓤 (u < suc t) (Inv u)) t)))
 

@@ -68,14 +68,7 @@ use Rattle.entries.proofs.triangles.Statement as stated
 use Rattle.entries.proofs.triangles.Code as code
 
 abbrev stayed : Stays (entry.ended .signature .params) (entry.ended .kept)
-stayed = (
-  stay-none-slice (0 ∷ []) tt (plain (λ _. Ly.the-row)) yes,
-  (
-    stay-none-slice (1 ∷ []) tt (plain (λ _.
-        i32)) yes,
-    (stay-none-slice (2 ∷ []) tt (plain (λ _. u8)) yes, (gave-slice (3 ∷ []) tt (plain (λ _. u32)), tt)),
-  ),
-)
+stayed = (stay-none-slice (0 ∷ []) tt (plain (λ _. Ly.the-row)) yes, (stay-none-slice (1 ∷ []) tt (plain (λ _. i32)) yes, (stay-none-slice (2 ∷ []) tt (plain (λ _. u8)) yes, (gave-slice (3 ∷ []) tt (plain (λ _. u32)), tt))))
 
 module _ {M : Type 1} (𝓤 : URA M) (H : Heap 𝓤) (A : Atoms 𝓤) (mem : Memory → SProp 𝓤) (run : Routine → Fun 𝓤) where
   -- the contract that the proof cites, beside `gather`'s
@@ -189,7 +182,8 @@ module _ {M : Type 1} (𝓤 : URA M) (H : Heap 𝓤) (A : Atoms 𝓤) (W : Given
         (and-then ! (load ! (from ! (stop !)) (look ! 14 refl)) (and-then ! (load ! (from ! (stop !)) (look ! 12 refl))
         (and-then ! (load ! (from ! (stop !)) (look ! 4 refl)) (no-more !))))) (λ u.
         use1 W (later (some (λ (r : Meshed). (Toks ⊛ ‵ (S.the-row .own r (u ∷ [])))
-        ⊛ raw (ensured 𝓤 H A triangles.ended (triangles.clauses 𝓤 H A mem run) (κ′, (κ″, (κ‴, tt))) (st, (c, (s, (o, tt)))) tt r)))) (id⊢ 𝓤 _) $
+        ⊛ raw (ensured 𝓤 H A triangles.ended (triangles.clauses 𝓤 H A mem run) (κ′, (κ″, (κ‴, tt))) (st, (c, (s, (o, tt)))) tt r))))
+        (id⊢ 𝓤 _) $
         await ! tt $ pick ! (λ r.
         -- what is ensured, at some last list
         split ! $ move ! (1 ∷ []) $
@@ -205,8 +199,10 @@ module _ {M : Type 1} (𝓤 : URA M) (H : Heap 𝓤) (A : Atoms 𝓤) (W : Given
         land ! (from ! (stop !)) (init ! 21 refl (EL.lawful S.the-type S′.the-laws 𝓤 H A W tt .typed r _ ir .0)) $
         returns ! (look ! 21 refl) $ forget ! 7 refl $ forget ! 9 refl $ forget ! 11 refl $ forget ! 13 refl $ forget ! 15 refl $
         forget ! 17 refl $ forget ! 19 refl $ forget ! 21 refl $
-        move ! (21 ∷ 22 ∷ []) $ free1 ! $ move ! (19 ∷ 20 ∷ []) $ free1 ! $ move ! (17 ∷ 18 ∷ []) $ free1 ! $ move ! (15 ∷ 16 ∷ []) $ free1 ! $
-        move ! (13 ∷ 14 ∷ []) $ free1 ! $ move ! (11 ∷ 12 ∷ []) $ free1 ! $ move ! (9 ∷ 10 ∷ []) $ free1 ! $ move ! (7 ∷ 8 ∷ []) $ free1 ! $ free0 ! $
+        move ! (21 ∷ 22 ∷ []) $ free1 ! $ move ! (19 ∷ 20 ∷ []) $ free1 ! $ move ! (17 ∷ 18 ∷ []) $ free1 ! $ move ! (15 ∷ 16 ∷ []) $
+        free1 ! $
+        move ! (13 ∷ 14 ∷ []) $ free1 ! $ move ! (11 ∷ 12 ∷ []) $ free1 ! $ move ! (9 ∷ 10 ∷ []) $ free1 ! $ move ! (7 ∷ 8 ∷ []) $ free1 ! $
+        free0 ! $
         keep ! (0 ∷ 5 ∷ 1 ∷ 6 ∷ 4 ∷ 2 ∷ []) $ by ! (exits r u (ws .1 .1 .1 .0) (f (x .now) g) l))))))))))))))))
 
 module _ {M : Type 1} (𝓤 : URA M) (H : Heap 𝓤) (A : Atoms 𝓤) (W : Given 𝓤 H A) (mem : Memory → SProp 𝓤) (run : Routine → Fun 𝓤) where
@@ -214,13 +210,8 @@ module _ {M : Type 1} (𝓤 : URA M) (H : Heap 𝓤) (A : Atoms 𝓤) (W : Given
       → Triple 𝓤 (C #mesh·triangles) (Triangles 𝓤 H A mem run)
       → Walks 𝓤 H A entry.ended stayed (WpFn 𝓤 H C Λ code.function) (entry.clauses 𝓤 H A mem run)
   entry-walks C Λ fm gather-known known = walked 𝓤 H A entry.ended stayed (entry.clauses 𝓤 H A mem run) (WpFn 𝓤 H C Λ code.function)
-      (λ κs. (slice-vals, (slice-vals, (slice-vals, (slice-vals, tt))))) (λ κs. (
-        shr-slice-tells (named 0) (κs .0) Ly.the-row,
-        (
-          shr-slice-tells (named 1) (κs .1 .0) i32,
-          (shr-slice-tells (named 2) (κs .1 .1 .0) u8, (mut-slice-tells (named 3) (κs .1 .1 .1 .0) u32, tt)),
-        ),
-      ))
+      (λ κs. (slice-vals, (slice-vals, (slice-vals, (slice-vals, tt)))))
+      (λ κs. (shr-slice-tells (named 0) (κs .0) Ly.the-row, (shr-slice-tells (named 1) (κs .1 .0) i32, (shr-slice-tells (named 2) (κs .1 .1 .0) u8, (mut-slice-tells (named 3) (κs .1 .1 .1 .0) u32, tt)))))
       (λ κs qs bounds a g are. via 𝓤 _ (fst∗ 𝓤 _ (emp 𝓤)) (walk 𝓤 H A W mem run (κs .0) (κs .1 .0) (κs .1 .1 .0) (κs .1 .1 .1 .0) (qs .0)
       (qs .1 .0) (qs .1 .1 .0) (qs .1 .1 .1 .0) (a .0) (a .1 .0) (a .1 .1 .0) (a .1 .1 .1 .0) C Λ fm gather-known known (are .0) (are .1 .0)
       (are .1 .1 .0) (are .1 .1 .1 .0)))
@@ -229,14 +220,9 @@ entry-meets : {M : Type 1} (𝓤 : URA M) (H : Heap 𝓤) (A : Atoms 𝓤) (W : 
     (run : Routine → Fun 𝓤) (𝓣 : Tables 𝓤 H)
     → Triple 𝓤 (𝓣 .C #entries·gather) (Gather 𝓤 H A mem run) → Triple 𝓤 (𝓣 .C #mesh·triangles) (Triangles 𝓤 H A mem run)
     → Meets 𝓤 H A entry.signature (WpFn 𝓤 H (𝓣 .C) (𝓣 .Λ) code.function) (entry.spec 𝓤 H A mem run)
-entry-meets 𝓤 H A W mem run 𝓣 gather-known known = walk-meets 𝓤 H A entry.ended stayed W (
-  goes-none-slice 𝓤 H A W 4 (0 ∷ []) tt (plain (λ _. Ly.the-row)) yes,
-  (
-    goes-none-slice 𝓤 H A W 4 (1 ∷ []) tt (plain (λ _.
-        i32)) yes,
-    (goes-none-slice 𝓤 H A W 4 (2 ∷ []) tt (plain (λ _. u8)) yes, (goes-gave-slice 𝓤 H A W 4 3 tt (plain (λ _. u32)), tt)),
-  ),
-)
+entry-meets 𝓤 H A W mem run 𝓣 gather-known known =
+    walk-meets 𝓤 H A entry.ended stayed W
+    (goes-none-slice 𝓤 H A W 4 (0 ∷ []) tt (plain (λ _. Ly.the-row)) yes, (goes-none-slice 𝓤 H A W 4 (1 ∷ []) tt (plain (λ _. i32)) yes, (goes-none-slice 𝓤 H A W 4 (2 ∷ []) tt (plain (λ _. u8)) yes, (goes-gave-slice 𝓤 H A W 4 3 tt (plain (λ _. u32)), tt))))
     (entry.clauses 𝓤 H A mem run) (WpFn 𝓤 H (𝓣 .C) (𝓣 .Λ) code.function) (WpFn-mono 𝓤 H (W .laws) 𝓣 code.function)
     (entry-walks 𝓤 H A W mem run (𝓣 .C) (𝓣 .Λ) (fmOf 𝓤 H (W .laws) 𝓣) gather-known known)
 
