@@ -217,9 +217,13 @@ fn tower_again(stack: Stack, coords: &[i32], strips: &[u8], file: &[u8]) {
         count: counts,
         layers: 20,
     };
+    tower_written(same, &numbers, &steps, file);
+}
+
+fn tower_written(stack: Stack, coords: &[i32], strips: &[u8], file: &[u8]) {
     let mut again = [7u8; 50_176];
     say(b"20 layers of 250 points, from what was read: write");
-    tell_write(same, &numbers, &steps, &mut again);
+    tell_write(stack, coords, strips, &mut again);
     say(b", its bytes");
     tell_same(same_bytes(&again, file));
     end();

@@ -1,4 +1,6 @@
 // What is printed of an answer.
+ghost use Rattle.whole.specs.Tells.{Tells};
+ghost use Rattle.register_rows.specs.Kept.{Kept};
 use crate::compares::sevens_bytes;
 use crate::compares::sevens_numbers;
 use crate::compares::sevens_places;
@@ -102,7 +104,7 @@ pub(crate) fn tell_read(
                 coords,
                 strips,
                 layers,
-                points,
+                twice(points),
                 steps,
             ));
         }
@@ -113,7 +115,12 @@ pub(crate) fn tell_read(
     }
 }
 
-// Whether all that is lent is the guard, but for the fronts of so many layers, points and steps. (No stack has more than 5,000 points.)
+// Two numbers a point. (No stack has more than 5,000 points.)
+fn twice(points: usize) -> usize {
+    if points <= 5_000 { 2 * points } else { 0 }
+}
+
+// Whether all that is lent is the guard, but for the fronts of so many layers, numbers and steps.
 pub(crate) fn behind(
     planes: &[i32],
     firsts: &[usize],
@@ -121,15 +128,15 @@ pub(crate) fn behind(
     coords: &[i32],
     strips: &[u8],
     layers: usize,
-    points: usize,
+    numbers: usize,
     steps: usize,
-) -> bool {
-    if 5_000 < points {
-        return false;
-    }
+) -> bool
+    ensures { λ r. ⌜ Tells (Kept (now (planes .entry)) (now (firsts .entry)) (now (counts .entry)) (now (coords .entry))
+        (now (strips .entry)) layers numbers steps) r ⌝ }
+{
     sevens_numbers(planes, layers)
         & sevens_places(firsts, layers)
         & sevens_places(counts, layers)
-        & sevens_numbers(coords, 2 * points)
+        & sevens_numbers(coords, numbers)
         & sevens_bytes(strips, steps)
 }
