@@ -7,7 +7,7 @@ use crate::tells::end;
 use crate::tells::say;
 use crate::tells::tell_read;
 
-// A file read into slices with room for three layers of ten points.
+// A file read into slices with room for three layers, ten points and thirteen steps.
 fn read(label: &[u8], file: &[u8]) {
     let mut planes = [7i32; 3];
     let mut firsts = [7usize; 3];
@@ -36,33 +36,9 @@ fn read_sealed(label: &[u8], contents: &[u8]) {
 
 // T's contents: places and values in turn, among zeros.
 fn contents_of_t(contents: &mut [u8]) {
-    put_all(
-        contents,
-        &[
-            0,
-            2,
-            6,
-            3,
-            16,
-            2,
-            28,
-            2,
-            32,
-            1,
-            36,
-            3,
-            46,
-            2,
-            58,
-            2,
-            62,
-            1,
-            64,
-            1,
-            66,
-            1,
-        ],
-    );
+    put_all(contents, &[0, 2, 6, 3, 16, 2, 28, 2]);
+    put_all(contents, &[32, 1, 36, 3, 46, 2, 58, 2]);
+    put_all(contents, &[62, 1, 64, 1, 66, 1]);
 }
 
 // T's contents with some bytes changed, sealed and read.
@@ -204,41 +180,18 @@ pub(crate) fn strips() {
 
 // T, and above it the points (0,0) (2,0) (2,2) (0,2) at plane 2: the steps AAABBB AAABBBB, or another in the place of either first B.
 fn three_layers(label: &[u8], lower: u8, upper: u8) {
-    altered(
-        label,
-        &[
-            0,
-            3,
-            62,
-            2,
-            64,
-            0,
-            66,
-            4,
-            76,
-            2,
-            84,
-            2,
-            88,
-            2,
-            96,
-            2,
-            103,
-            lower,
-            104,
-            1,
-            105,
-            1,
-            109,
-            upper,
-            110,
-            1,
-            111,
-            1,
-            112,
-            1,
-        ],
-    );
+    let mut contents = [0u8; 508];
+    contents_of_t(&mut contents);
+    third_layer(&mut contents);
+    put_all(&mut contents, &[103, lower, 104, 1, 105, 1]);
+    put_all(&mut contents, &[109, upper, 110, 1, 111, 1, 112, 1]);
+    read_sealed(label, &contents);
+}
+
+// In the place of T's steps.
+fn third_layer(contents: &mut [u8]) {
+    put_all(contents, &[0, 3, 62, 2, 64, 0, 66, 4]);
+    put_all(contents, &[76, 2, 84, 2, 88, 2, 96, 2]);
 }
 
 // Each of the five slices, too short by one.
