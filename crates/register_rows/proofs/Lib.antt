@@ -1,0 +1,2 @@
+-- The laws behind `kept` and `same`.
+mod KeptLaws

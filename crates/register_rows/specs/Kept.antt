@@ -1,0 +1,23 @@
+-- What is asked of lent memory after a call.
+use mathlib.Core.Path.{_≡_}
+use mathlib.Core.List.{List}
+use Prim.Native.Nat.{ℕ, _≤_, _<_}
+use lib.IntN.{ℤ, pos}
+use lib.ListN.{length, getD}
+
+-- the elements of l from `from` up to `to` are the guard (d stands past the end)
+pub record AllAre {A : Type 0} (d guard : A) (l : List A) (from to : ℕ) : Type 0 where
+  pub are : (k : ℕ) → from ≤ k → k < to → getD l k d ≡ guard
+
+-- the first n elements of l are there, and those of front
+pub record Begins {A : Type 0} (d : A) (l front : List A) (n : ℕ) : Type 0 where
+  pub inside : (k : ℕ) → k < n → k < length l
+  pub are : (k : ℕ) → k < n → getD l k d ≡ getD front k d
+
+-- the guard stands behind the first so many elements of all that is lent for reading
+pub record Kept (planes : List ℤ) (firsts counts : List ℕ) (coords : List ℤ) (strips : List ℕ) (layers numbers steps : ℕ) : Type 0 where
+  pub inPlanes : AllAre (pos 0) (pos 7) planes layers (length planes)
+  pub inFirsts : AllAre 0 7 firsts layers (length firsts)
+  pub inCounts : AllAre 0 7 counts layers (length counts)
+  pub inCoords : AllAre (pos 0) (pos 7) coords numbers (length coords)
+  pub inStrips : AllAre 0 7 strips steps (length strips)

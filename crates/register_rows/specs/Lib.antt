@@ -1,0 +1,2 @@
+-- What `kept` and `same` mean.
+pub mod Kept
