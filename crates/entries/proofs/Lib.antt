@@ -6,3 +6,4 @@ pub mod Walking
 pub mod Gathered
 pub mod Scattering
 mod GatherLaws
+mod ReadLaws

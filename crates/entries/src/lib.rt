@@ -10,12 +10,15 @@ ghost use Rattle.stack.specs.Faults.{StackJudged};
 ghost use Rattle.stack.specs.Strips.{StripsAnswered};
 ghost use Rattle.bands.specs.Bands.{BandsAnswer};
 ghost use Rattle.mesh.specs.Meshing.{Measured, Triangled};
+ghost use Rattle.register.specs.Reading.{ReadAnswer};
 ghost use Rattle.register.specs.Writing.{WriteAnswer};
 ghost use Rattle.entries.specs.Gathering.{gathered, Gathering};
 ghost use Rattle.entries.specs.Scattered.{written, scattered};
+ghost use Rattle.entries.specs.Reading.{lentEntries, layersIn};
 use bands::Banded;
 use mesh::Meshed;
 use mesh::Volumed;
+use register::ReadBack;
 use register::Written;
 use stack::Layer;
 use stack::Stack;
@@ -61,6 +64,60 @@ pub fn write(layers: &[Layer], coords: &[i32], strips: &[u8], out: &mut [u8]) ->
         (now (out .entry)) (now (out .exit)) r ⌝ }
 {
     register::write(gather(layers), coords, strips, out)
+}
+
+// What a file holds, by value: its entries, none of them if it is refused, and the answer.
+struct FileRead {
+    stack: Stack,
+    answer: ReadBack,
+}
+
+// Reads into arrays that have as much room for entries as `room` entries have. (No file has over 20.)
+fn read_by_value(file: &[u8], room: usize, coords: &mut [i32], strips: &mut [u8]) -> FileRead
+    ensures { λ r. ⌜ ((old : List Layer) → length old ≡ room
+        → ReadAnswer (now (file .entry)) (lentEntries old (now (coords .entry)) (now (strips .entry)))
+        (lentEntries (scattered (r .stack) old) (now (coords .exit)) (now (strips .exit))) (r .answer)) ⌝ }
+{
+    let mut planes = no_planes();
+    let mut firsts = no_numbers();
+    let mut counts = no_numbers();
+    let n = up_to_20(room);
+    let answer = register::read(
+        file,
+        &mut planes[..n],
+        &mut firsts[..n],
+        &mut counts[..n],
+        coords,
+        strips,
+    );
+    let stack = Stack {
+        plane: planes,
+        first: firsts,
+        count: counts,
+        layers: layers_in(answer),
+    };
+    FileRead { stack, answer }
+}
+
+fn layers_in(answer: ReadBack) -> usize
+    ensures { λ r. ⌜ r ≡ layersIn answer ⌝ }
+{
+    match answer {
+        ReadBack::Whole { layers, .. } => layers,
+        ReadBack::Refused(_) => 0,
+    }
+}
+
+fn no_planes() -> [i32; 20]
+    ensures { λ r. ⌜ 20 ≡ length r ⌝ }
+{
+    [0i32; 20]
+}
+
+fn no_numbers() -> [usize; 20]
+    ensures { λ r. ⌜ 20 ≡ length r ⌝ }
+{
+    [0usize; 20]
 }
 
 // The first 20 entries, field by field, zeros past the last, and how many entries there are.
