@@ -1,5 +1,5 @@
 // The entry points over a lent slice of layer entries. Each gathers the entries into a stack, which is passed by value, and calls the
-// function of the same name on it: all that is judged, measured and written is proved there.
+// function of the same name on it: all that is judged, measured and written is proved there. `read` scatters the stack that it finds.
 ghost use mathlib.Core.Path.{_≡_};
 ghost use mathlib.Core.List.{List};
 ghost use Prim.Native.Nat.{suc, _<_, min};
@@ -64,6 +64,17 @@ pub fn write(layers: &[Layer], coords: &[i32], strips: &[u8], out: &mut [u8]) ->
         (now (out .entry)) (now (out .exit)) r ⌝ }
 {
     register::write(gather(layers), coords, strips, out)
+}
+
+// The entries of a register file, their coordinates and their strips, each at the front of its slice. Of a refused file nothing is written.
+pub fn read(file: &[u8], layers: &mut [Layer], coords: &mut [i32], strips: &mut [u8]) -> ReadBack
+    ensures { λ r. ⌜ ReadAnswer (now (file .entry))
+        (lentEntries (now (layers .entry)) (now (coords .entry)) (now (strips .entry)))
+        (lentEntries (now (layers .exit)) (now (coords .exit)) (now (strips .exit))) r ⌝ }
+{
+    let found = read_by_value(file, layers.len(), coords, strips);
+    scatter(layers, found.stack);
+    found.answer
 }
 
 // What a file holds, by value: its entries, none of them if it is refused, and the answer.
