@@ -60,8 +60,8 @@ pub fn triangles(layers: &[Layer], coords: &[i32], strips: &[u8], out: &mut [u32
 
 // The register file of the entries with their strips.
 pub fn write(layers: &[Layer], coords: &[i32], strips: &[u8], out: &mut [u8]) -> Written
-    ensures { λ r. ⌜ WriteAnswer (now (layers .entry)) (now (coords .entry)) (now (strips .entry))
-        (now (out .entry)) (now (out .exit)) r ⌝ }
+    ensures { λ r. ⌜ WriteAnswer (now (layers .entry)) (now (coords .entry)) (now (strips .entry)) (now (out .entry))
+        (now (out .exit)) r ⌝ }
 {
     register::write(gather(layers), coords, strips, out)
 }
