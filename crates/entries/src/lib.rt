@@ -1,5 +1,5 @@
 // The entry points over a lent slice of layer entries. Each gathers the entries into a stack, which is passed by value, and calls the
-// function of the same name on it: all that is judged, measured and written is proved there.
+// function of the same name on it: all that is judged, measured and written is proved there. `read` scatters the stack that it finds.
 ghost use mathlib.Core.Path.{_≡_};
 ghost use mathlib.Core.List.{List};
 ghost use Prim.Native.Nat.{suc, _<_, min};
@@ -10,12 +10,15 @@ ghost use Rattle.stack.specs.Faults.{StackJudged};
 ghost use Rattle.stack.specs.Strips.{StripsAnswered};
 ghost use Rattle.bands.specs.Bands.{BandsAnswer};
 ghost use Rattle.mesh.specs.Meshing.{Measured, Triangled};
+ghost use Rattle.register.specs.Reading.{ReadAnswer};
 ghost use Rattle.register.specs.Writing.{WriteAnswer};
 ghost use Rattle.entries.specs.Gathering.{gathered, Gathering};
 ghost use Rattle.entries.specs.Scattered.{written, scattered};
+ghost use Rattle.entries.specs.Reading.{lentEntries, layersIn};
 use bands::Banded;
 use mesh::Meshed;
 use mesh::Volumed;
+use register::ReadBack;
 use register::Written;
 use stack::Layer;
 use stack::Stack;
@@ -61,6 +64,71 @@ pub fn write(layers: &[Layer], coords: &[i32], strips: &[u8], out: &mut [u8]) ->
         (now (out .exit)) r ⌝ }
 {
     register::write(gather(layers), coords, strips, out)
+}
+
+// The entries of a register file, their coordinates and their strips, each at the front of its slice. Of a refused file nothing is written.
+pub fn read(file: &[u8], layers: &mut [Layer], coords: &mut [i32], strips: &mut [u8]) -> ReadBack
+    ensures { λ r. ⌜ ReadAnswer (now (file .entry))
+        (lentEntries (now (layers .entry)) (now (coords .entry)) (now (strips .entry)))
+        (lentEntries (now (layers .exit)) (now (coords .exit)) (now (strips .exit))) r ⌝ }
+{
+    let found = read_by_value(file, layers.len(), coords, strips);
+    scatter(layers, found.stack);
+    found.answer
+}
+
+// What a file holds, by value: its entries, none of them if it is refused, and the answer.
+struct FileRead {
+    stack: Stack,
+    answer: ReadBack,
+}
+
+// Reads into arrays that have as much room for entries as `room` entries have. (No file has over 20.)
+fn read_by_value(file: &[u8], room: usize, coords: &mut [i32], strips: &mut [u8]) -> FileRead
+    ensures { λ r. ⌜ ((old : List Layer) → length old ≡ room
+        → ReadAnswer (now (file .entry)) (lentEntries old (now (coords .entry)) (now (strips .entry)))
+        (lentEntries (scattered (r .stack) old) (now (coords .exit)) (now (strips .exit))) (r .answer)) ⌝ }
+{
+    let mut planes = no_planes();
+    let mut firsts = no_numbers();
+    let mut counts = no_numbers();
+    let n = up_to_20(room);
+    let answer = register::read(
+        file,
+        &mut planes[..n],
+        &mut firsts[..n],
+        &mut counts[..n],
+        coords,
+        strips,
+    );
+    let stack = Stack {
+        plane: planes,
+        first: firsts,
+        count: counts,
+        layers: layers_in(answer),
+    };
+    FileRead { stack, answer }
+}
+
+fn layers_in(answer: ReadBack) -> usize
+    ensures { λ r. ⌜ r ≡ layersIn answer ⌝ }
+{
+    match answer {
+        ReadBack::Whole { layers, .. } => layers,
+        ReadBack::Refused(_) => 0,
+    }
+}
+
+fn no_planes() -> [i32; 20]
+    ensures { λ r. ⌜ 20 ≡ length r ⌝ }
+{
+    [0i32; 20]
+}
+
+fn no_numbers() -> [usize; 20]
+    ensures { λ r. ⌜ 20 ≡ length r ⌝ }
+{
+    [0usize; 20]
 }
 
 // The first 20 entries, field by field, zeros past the last, and how many entries there are.
