@@ -193,6 +193,30 @@ fn refusal_alike(a: &[i32], b: &[i32], strip: &mut [u8], work: &mut [u8]) -> boo
     }
 }
 
+// 01's row: a strip slice of m+n-1 bytes is ROOM, and nothing is touched.
+fn short_room_alike(a: &[i32], b: &[i32], steps: usize, strip: &mut [u8], work: &mut [u8]) -> bool {
+    if steps < 1 {
+        return false;
+    }
+    if strip.len() < steps {
+        return false;
+    }
+    let end = steps - 1;
+    short_alike(a, b, &mut strip[..end], work)
+}
+
+fn short_alike(a: &[i32], b: &[i32], short: &mut [u8], work: &mut [u8]) -> bool {
+    match joining::best(a, b, short, work) {
+        Valued::Value(_) => false,
+        Valued::Refused(refusal) => refused_for_room(refusal) & kept(short, work),
+    }
+}
+
+fn refused_for_room(refusal: Refusal) -> bool {
+    let fault = refusal.fault;
+    (number(fault) == 8) & (refusal.place == 0)
+}
+
 // What was found of one pair: how many best strips (none if it is refused), and whether all was alike.
 pub(crate) struct Pairing {
     pub listed: usize,
@@ -215,7 +239,12 @@ pub(crate) fn pair_alike(
             alike: judged & refusal_alike(a, b, &mut strip, &mut work),
         };
     }
-    accepted_alike(a, b, coords, size, offered, &mut strip, &mut work)
+    let room = short_room_alike(a, b, size.steps, &mut strip, &mut work);
+    let found = accepted_alike(a, b, coords, size, offered, &mut strip, &mut work);
+    Pairing {
+        listed: found.listed,
+        alike: room & judged & found.alike,
+    }
 }
 
 fn accepted_alike(
