@@ -18,7 +18,7 @@ use Rattle.register.specs.declared.ReadBack.the-variants as read-is
 use Rattle.register.specs.Reading.{Lent, lent, EnoughFor, filled, ReadAnswer}
 use Rattle.register.specs.Reading as answer
 use Rattle.entries.specs.Scattered.{scattered}
-use Rattle.entries.specs.Reading.{lentEntries, layersIn}
+use Rattle.entries.specs.Reading.{lentEntries, layersRead}
 use Rattle.entries.proofs.ScatterLaws.{scattered-none, scattered-all}
 
 -- ---- fields of entries
@@ -89,11 +89,11 @@ begun y p f m n = record { plane = y .planes ++ p; first = y .firsts ++ f; count
 
 module _ (old : List Layer) (p : List ℤ) (q m : List ℕ) where
   -- of a refused file nothing is written
-  refused : (x : Lent) {f : List ℕ} {r : ReadBack} → layersIn r ≡ 0 → ReadAnswer f (Over x old) (Over x old) r
-      → ReadAnswer f (Over x old) (lentEntries (scattered (begun x p q m (layersIn r)) old) (x .coords) (x .strips)) r
+  refused : (x : Lent) {f : List ℕ} {r : ReadBack} → layersRead r ≡ 0 → ReadAnswer f (Over x old) (Over x old) r
+      → ReadAnswer f (Over x old) (lentEntries (scattered (begun x p q m (layersRead r)) old) (x .coords) (x .strips)) r
   refused x {f} {r} e a =
       subst (λ (es : List Layer). ReadAnswer f (Over x old) (lentEntries es (x .coords) (x .strips)) r)
-      (sym (scattered-none (begun x p q m (layersIn r)) old e)) a
+      (sym (scattered-none (begun x p q m (layersRead r)) old e)) a
 
   -- of an accepted one all entries
   module _ (x : Lent) (es : List Layer) (c : List ℤ) (l : List ℕ) (few : length es ≤ 20) (room : length es ≤ length old) where
@@ -131,7 +131,7 @@ module _ (old : List Layer) (p : List ℤ) (q m : List ℕ) where
         ∙ filled-is (c ++ drop (length c) (x .coords)) (l ++ drop (length l) (x .strips))
 
   pub read-over : {f : List ℕ} {x y : Lent} {r : ReadBack} → Alike x old → ReadAnswer f x y r
-      → ReadAnswer f (Over x old) (lentEntries (scattered (begun y p q m (layersIn r)) old) (y .coords) (y .strips)) r
+      → ReadAnswer f (Over x old) (lentEntries (scattered (begun y p q m (layersRead r)) old) (y .coords) (y .strips)) r
   read-over {x = x} a (answer.blocks j) = refused x refl (answer.blocks j)
   read-over {x = x} a (answer.layers s w) = refused x refl (answer.layers s w)
   read-over {x = x} a (answer.content s i w) = refused x refl (answer.content s i w)
@@ -151,7 +151,7 @@ part-long l {n} room e h = omega (arith, length-take n l, e, h)
 module _ (ps : List ℤ) (fs ms : List ℕ) (room : ℕ) where
   pub read-fronts : {f : List ℕ} {ps′ cs cs′ : List ℤ} {fs′ ms′ ls ls′ : List ℕ} {r : ReadBack} {n k : ℕ}
       → n ≡ min room 20 → 20 ≡ length ps → 20 ≡ length fs → 20 ≡ length ms
-      → ReadAnswer f (lent (take n ps) (take n fs) (take n ms) cs ls) (lent ps′ fs′ ms′ cs′ ls′) r → k ≡ layersIn r
+      → ReadAnswer f (lent (take n ps) (take n fs) (take n ms) cs ls) (lent ps′ fs′ ms′ cs′ ls′) r → k ≡ layersRead r
       → (old : List Layer) → length old ≡ room
       → ReadAnswer f (lentEntries old cs ls) (lentEntries (scattered
       (record { plane = ps′ ++ drop n ps; first = fs′ ++ drop n fs; count = ms′ ++ drop n ms; layers = k }) old) cs′ ls′) r

@@ -20,6 +20,6 @@ lentEntries es c l = record {
 }
 
 -- how many entries an answer speaks of: none, if it refuses
-abbrev pub layersIn : ReadBack → ℕ
-layersIn (read-is.Whole n _ _) = n
-layersIn (read-is.Refused _) = 0
+abbrev pub layersRead : ReadBack → ℕ
+layersRead (read-is.Whole n _ _) = n
+layersRead (read-is.Refused _) = 0

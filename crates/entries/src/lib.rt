@@ -14,7 +14,7 @@ ghost use Rattle.register.specs.Reading.{ReadAnswer};
 ghost use Rattle.register.specs.Writing.{WriteAnswer};
 ghost use Rattle.entries.specs.Gathering.{gathered, Gathering};
 ghost use Rattle.entries.specs.Scattered.{written, scattered};
-ghost use Rattle.entries.specs.Reading.{lentEntries, layersIn};
+ghost use Rattle.entries.specs.Reading.{lentEntries, layersRead};
 use bands::Banded;
 use mesh::Meshed;
 use mesh::Volumed;
@@ -111,7 +111,7 @@ fn read_by_value(file: &[u8], room: usize, coords: &mut [i32], strips: &mut [u8]
 }
 
 fn layers_in(answer: ReadBack) -> usize
-    ensures { λ r. ⌜ r ≡ layersIn answer ⌝ }
+    ensures { λ r. ⌜ r ≡ layersRead answer ⌝ }
 {
     match answer {
         ReadBack::Whole { layers, .. } => layers,
