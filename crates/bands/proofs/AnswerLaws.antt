@@ -21,7 +21,7 @@ use Rattle.stack.proofs.Told.{OfStack, stack-fit, stack-steps}
 use Rattle.bands.specs.declared.Banded.{Banded}
 use Rattle.bands.specs.declared.Banded.the-variants as bands-are
 use Rattle.bands.specs.Bands.{mostCells, EnoughRoom, BandsAnswer, room, best}
-use Rattle.bands.specs.Filling.{Sized, Filled}
+use Rattle.bands.specs.Filling.{Sized, BandsFilled}
 
 module _ {st : Stack} {c : List ℤ} {j : StackJudgement} {points n : ℕ} (s : OfStack st c j) (e : j ≡ stack-is.Fit points n) where
   pub accepted : AcceptedStack (laid st) c
@@ -50,7 +50,7 @@ module _ {st : Stack} {c : List ℤ} {j : StackJudgement} {points n : ℕ} (s : 
       → length work < cells → (es : List Layer) → Gathers st es → BandsAnswer es c strips work strips work r
   no-work q k h = no-room q (λ m. omega (arith, m .forWork))
 
-  pub answered : {strips work strips′ work′ : List ℕ} → EnoughRoom (laid st) strips work → Filled (laid st) c strips work strips′ work′
+  pub answered : {strips work strips′ work′ : List ℕ} → EnoughRoom (laid st) strips work → BandsFilled (laid st) c strips work strips′ work′
       → (es : List Layer) → Gathers st es → BandsAnswer es c strips work strips′ work′ (bands-are.Steps n)
   answered m f = for-gathered _ st (laid-twenty st (accepted .layers))
       (rw (f .front, f .zeros, stack-steps s e) (best accepted m (f .written) (f .best)))

@@ -29,7 +29,7 @@ use Rattle.stack.specs.Laid.{laid}
 use Rattle.stack.proofs.StackLaws.{accepted-points, accepted-pair, accepted-count, band-within, band-all}
 use Rattle.stack.proofs.Laying.{laid-long, count-at, count-above}
 use Rattle.bands.specs.Bands.{EnoughRoom, BandBest}
-use Rattle.bands.specs.Filling.{cells, cellsTo, BandReady, BandFilled, Filled}
+use Rattle.bands.specs.Filling.{cells, cellsTo, BandReady, BandFilled, BandsFilled}
 use Rattle.bands.proofs.CellLaws.{cells-all, cells-below, cells-within, zeroed, zeroed-twice, zeroed-length}
 
 -- ---- one band
@@ -230,7 +230,7 @@ module _ {es : List Layer} {c : List ℤ} {k at : ℕ} {strips₀ work₀ strips
           ∙ zeroed-length (cellsTo es (suc k)) work₀ (omega (arith, cells-below es (suc k) h, m .forWork));
     })
 
-  pub bands-done : length es ≤ k + 1 → Filled es c strips₀ work₀ strips work
+  pub bands-done : length es ≤ k + 1 → BandsFilled es c strips₀ work₀ strips work
   bands-done h =
       let top : k ≡ length es - 1 = omega (arith, s .here) in
       let all : at ≡ steps es = s .start ∙ band-all es k top in record {

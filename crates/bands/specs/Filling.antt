@@ -43,7 +43,7 @@ pub record BandFilled (es : List Layer) (c : List ℤ) (k : ℕ) (part work part
   pub zeros : work′ ≡ replicate (cells es k) 0 ++ drop (cells es k) work
 
 -- what all bands together do
-pub record Filled (es : List Layer) (c : List ℤ) (strips work strips′ work′ : List ℕ) : Type 0 where
+pub record BandsFilled (es : List Layer) (c : List ℤ) (strips work strips′ work′ : List ℕ) : Type 0 where
   pub written : List ℕ
   pub best : AllBest es c written
   pub front : strips′ ≡ written ++ drop (steps es) strips

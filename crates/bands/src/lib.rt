@@ -8,7 +8,7 @@ ghost use Rattle.stack.specs.Faults.{AcceptedStack};
 ghost use Rattle.stack.specs.Gathered.{Gathers};
 ghost use Rattle.stack.specs.Laid.{laid};
 ghost use Rattle.bands.specs.Bands.{mostCells, EnoughRoom, BandsAnswer};
-ghost use Rattle.bands.specs.Filling.{cells, Sized, BandReady, BandFilled, Filled};
+ghost use Rattle.bands.specs.Filling.{cells, Sized, BandReady, BandFilled, BandsFilled};
 use fault::Fault;
 use fault::Refusal;
 use stack::Stack;
@@ -98,7 +98,7 @@ fn put_strip(stack: Stack, coords: &[i32], k: usize, part: &mut [u8], work: &mut
 // All bands, from the bottom up: each is lent the part of the strips from where the one below it ends, and the same work bytes.
 fn put_strips(stack: Stack, coords: &[i32], strips: &mut [u8], work: &mut [u8])
     requires { ⌜ AcceptedStack (laid stack) (now coords) × EnoughRoom (laid stack) (now strips) (now work) ⌝ }
-    ensures { λ _. ⌜ Filled (laid stack) (now (coords .entry))
+    ensures { λ _. ⌜ BandsFilled (laid stack) (now (coords .entry))
         (now (strips .entry)) (now (work .entry)) (now (strips .exit)) (now (work .exit)) ⌝ }
 {
     let layers = stack.layers;

@@ -14,7 +14,6 @@ use Rattle.blocks.specs.declared.BlocksJudgement.{BlocksJudgement}
 use Rattle.blocks.specs.declared.BlocksJudgement.the-variants as blocks-are
 use Rattle.blocks.specs.Blocks.{checkOf, two, tailOf, blockAt, contentsAt}
 use Rattle.blocks.specs.Faults.{WholeBlocks, CheckFault, Sound, BlocksJudged, check, sound}
-use Rattle.blocks.proofs.CheckLaws.{check-small}
 use Rattle.blocks.proofs.OpenLaws.{less-or-not}
 use Rattle.blocks.proofs.Exact.{judged-unique}
 use Rattle.blocks.proofs.RoundTrip.{Right, sound-right, right-fault, wrong-fault}
@@ -60,9 +59,6 @@ stored-check {f} s b h =
   where
     byte : (i : ℕ) → i < 4 → getD f (512 * b + (508 + i)) 0 ≡ getD (drop 508 (blockAt f b)) i 0
     byte i l = sym (getD-drop 508 (blockAt f b) i 0 ∙ block-at f b (508 + i) (omega arith))
-
-pub stored-below : {f : List ℕ} {n : ℕ} → Sound f n → (b : ℕ) → b < n → getD f (512 * b + 508) 0 + 256 * getD f (512 * b + 509) 0 < 65521
-stored-below {f} s b h = omega (arith, stored-check s b h, check-small b (contentsAt f b))
 
 -- ---- one byte changed
 

@@ -1,16 +1,12 @@
 -- A block's contents copied: the list with zeros behind it has at each place what the list has, which is 0 past its end; so 508
 -- bytes that are read one by one are the padded part. Assumes nothing.
-use mathlib.Core.Path.{_≡_, refl, sym, ap, ap₂, _∙_}
-use mathlib.Core.List.{List, [], _∷_, _++_, append-assoc}
+use mathlib.Core.Path.{_≡_, refl, _∙_}
+use mathlib.Core.List.{List, [], _∷_, _++_}
 use Prim.Native.Nat.{ℕ, zero, suc, _+_, _-_, _≤_, _<_}
-use native.Mathlib.Numerals.{add-one}
 use native.Mathlib.Omega.{arith}
-use lib.ListN.{length, getD, take, drop, set, replicate, length-append, length-take, length-set, length-replicate}
-use lib.Seq.{take-all, take-at, drop-at, drop-drop, drop-cons, set-at, append-snoc, take-suc, length-take-le, getD-take}
-use borrow.Rule.Slice.PartMut.{putMid, same-len-mid}
-use Rattle.whole.proofs.Parts.{part-lent, part-back}
+use lib.ListN.{length, getD, take, replicate, length-append, length-take, length-replicate}
+use lib.Seq.{getD-take}
 use Rattle.blocks.specs.Blocks.{padded}
-use Rattle.whole.specs.Filled.{Filled}
 
 -- ---- zeros behind a list
 

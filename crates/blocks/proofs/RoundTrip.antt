@@ -7,17 +7,16 @@ use mathlib.Core.List.{List, [], _∷_, _++_, append-nil, List-discrete}
 use Prim.Native.Nat.{ℕ, zero, suc, _+_, _*_, _-_, _/_, _≤_, _<_}
 use native.Mathlib.Decide.{ℕ-discrete}
 use native.Mathlib.Omega.{arith}
-use lib.ListN.{length, getD, take, drop, replicate, length-append, length-take, length-drop, length-replicate, take-append-drop, getD-replicate, List·getD-append, List·getD-eq-default}
+use lib.ListN.{length, getD, take, drop, replicate, length-append, length-take, length-drop, length-replicate, take-append-drop, List·getD-append}
 use lib.Seq.{take-at, drop-at, take-append-le, take-take, drop-drop, length-take-le, getD-append-add, getD-take, getD-drop, ext-getD}
 use Rattle.blocks.specs.declared.BlocksJudgement.{BlocksJudgement}
 use Rattle.blocks.specs.declared.BlocksJudgement.the-variants as blocks-are
 use Rattle.blocks.specs.Blocks.{tailOf, padded, blockOf, sealed, blocksFor, fileOf, blockAt, contentsAt, contentsOf}
-use Rattle.blocks.specs.Faults.{CheckFault, Sound, BlocksJudged, sound}
+use Rattle.blocks.specs.Faults.{CheckFault, Sound}
 use Rattle.blocks.specs.Opened.{placeOf, Opened}
 use Rattle.blocks.proofs.CopyLaws.{zeros-behind, part-long, part-at}
 use Rattle.blocks.proofs.SealLaws.{block-long, sealed-long}
 use Rattle.blocks.proofs.OpenLaws.{less-or-not}
-use Rattle.blocks.proofs.Exact.{judged-unique}
 
 -- ---- a block by its number
 
@@ -101,11 +100,6 @@ sealed-is-sound l some few = record {
   blocks = record { whole = sealed-long (blocksFor (length l)) 0 l; some = some; few = few };
   checks = λ b h. right-fault (fileOf l) b (sealed-right (blocksFor (length l)) l b h);
 }
-
--- it is judged sound
-pub sealed-judged : (l : List ℕ) → 1 ≤ blocksFor (length l) → blocksFor (length l) ≤ 98 → {r : BlocksJudgement} → BlocksJudged (fileOf l) r
-    → r ≡ blocks-are.Sound (blocksFor (length l))
-sealed-judged l some few j = judged-unique j (sound (sealed-is-sound l some few))
 
 -- ---- what is sealed can be opened
 
@@ -269,12 +263,3 @@ module _ {f r : List ℕ} {n : ℕ} (o : Opened f r) (whole : length f ≡ 512 *
       ext-getD 0 (take (508 * n) r) (contentsOf n f) (long ∙ sym (contents-long n f whole))
       (λ k h. getD-take (508 * n) r k 0 (omega (arith, long)) ∙ o .bytes k (omega (arith, long))
       ∙ sym (contents-at n f whole k (omega (arith, long))))
-
-  -- and zeros behind them
-  pub opened-filler : drop (508 * n) r ≡ replicate (508 * (98 - n)) 0
-  opened-filler =
-      let long : length (drop (508 * n) r) ≡ 508 * (98 - n) = simp length-drop (omega (arith, o .long)) in
-      ext-getD 0 (drop (508 * n) r) (replicate (508 * (98 - n)) 0) (long ∙ sym (length-replicate (508 * (98 - n)) 0))
-      (λ k h. getD-drop (508 * n) r k 0 ∙ o .bytes (508 * n + k) (omega (arith, long))
-      ∙ List·getD-eq-default f 0 {n = placeOf (508 * n + k)} (omega arith)
-      ∙ sym (getD-replicate (508 * (98 - n)) k 0 0 (omega (arith, long))))

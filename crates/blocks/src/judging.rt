@@ -3,7 +3,7 @@ ghost use mathlib.Core.Path.{_≡_};
 ghost use mathlib.Core.List.{[], _∷_, _++_};
 ghost use Prim.Native.Nat.{suc, _*_, _≤_, _<_};
 ghost use lib.ListN.{length};
-ghost use Rattle.whole.specs.Lowest.{FirstOf};
+ghost use Rattle.whole.specs.Lowest.{FirstPlace};
 ghost use Rattle.whole.specs.Tells.{Tells};
 ghost use Rattle.blocks.specs.Blocks.{two};
 ghost use Rattle.blocks.specs.Faults.{CheckFault};
@@ -34,7 +34,7 @@ fn block_wrong(file: &[u8], b: usize) -> bool
 // The lowest block at fault, or the number of blocks.
 pub(crate) fn first_wrong(file: &[u8], blocks: usize) -> usize
     requires { ⌜ (blocks ≤ 98) × (512 * blocks ≤ length (now file)) ⌝ }
-    ensures { λ r. ⌜ FirstOf (CheckFault (now (file .entry))) blocks r ⌝ }
+    ensures { λ r. ⌜ FirstPlace (CheckFault (now (file .entry))) blocks r ⌝ }
 {
     let mut b = 0;
     while b < blocks {

@@ -1,13 +1,12 @@
 -- `best`, from what its parts have done: the marks lead back the strip of 001's rule (13), which is the first best one. Assumes nothing.
-use mathlib.Core.Path.{_≡_, sym, ap, _∙_, subst, subst₂}
+use mathlib.Core.Path.{_≡_, refl, sym, ap, _∙_, subst, subst₂}
 use mathlib.Core.List.{List, _++_}
 use Prim.Native.Nat.{ℕ, _+_, _*_, _≤_, _<_}
 use native.Mathlib.Omega.{arith}
 use lib.IntN.{ℤ}
 use lib.ListN.{length, drop, replicate}
 use Rattle.trace.specs.Points.{count}
-use Rattle.trace.specs.Pair.{at}
-use Rattle.trace.proofs.PairLaws.{PairCounts}
+use Rattle.trace.specs.Pair.{at, PairCounts}
 use Rattle.ways.specs.Strip.{Step}
 use Rattle.ways.specs.Keppel.{trace, traced}
 use Rattle.ways.proofs.Greatest.{attained}
@@ -18,11 +17,15 @@ use Rattle.strip.specs.declared.Valued.{Valued}
 use Rattle.strip.specs.declared.Valued.the-variants.{Value, Refused}
 use Rattle.fault.specs.declared.Fault.the-variants.{Room}
 use Rattle.joining.specs.Cells.{room}
-use Rattle.joining.specs.Table.{Filled}
+use Rattle.joining.specs.Table.{Tabled}
 use Rattle.joining.specs.Walking.{saysA}
-use Rattle.joining.specs.Answers.{Enough, workBytes, BestAnswer, best}
+use Rattle.joining.specs.Answers.{Enough, workBytes, Untouched, BestAnswer, best}
 use Rattle.joining.proofs.CellLaws.{room-all}
 use Rattle.joining.proofs.MarkLaws.{filled-trace}
+
+-- what is lent is as it was
+pub untouched : {strip work : List ℕ} → Untouched strip work strip work
+untouched = record { stripSame = refl; workSame = refl }
 
 -- enough room, by the numbers of points
 pub enough : {a b : List ℤ} {m n : ℕ} {strip work : List ℕ} → PairCounts a b m n → m + n ≤ length strip → (m + 1) * (n + 1) ≤ length work
@@ -44,7 +47,7 @@ short-work {a} {b} {m} {n} {strip} {work} p h e =
 
 -- what the parts of `best` have done
 pub record BestParts (a b : List ℤ) (strip work strip′ work₁ work′ : List ℕ) (r : ℤ) (m n : ℕ) : Type 0 where
-  pub filled : Filled (worths a b) m n work work₁ r
+  pub filled : Tabled (worths a b) m n work work₁ r
   pub front : strip′ ≡ bytes (trace (saysA work₁ n) (m + n) m n) ++ drop (m + n) strip
   pub zeros : work′ ≡ replicate (room ((m + 1) * (n + 1))) 0 ++ drop (room ((m + 1) * (n + 1))) work₁
 

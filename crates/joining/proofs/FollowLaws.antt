@@ -16,8 +16,8 @@ use Rattle.whole.proofs.Order.{ltZ-true, ltZ-false, ≤ℤ-antisym}
 use Rattle.fault.specs.declared.Fault.the-variants.{Below}
 use Rattle.fault.specs.declared.Refusal.{Refusal}
 use Rattle.trace.specs.Points.{count}
-use Rattle.trace.specs.Pair.{at}
-use Rattle.trace.proofs.PairLaws.{PairCounts, refused-not-pair}
+use Rattle.trace.specs.Pair.{at, PairCounts}
+use Rattle.trace.proofs.PairLaws.{refused-not-pair}
 use Rattle.ways.specs.Strip.{Step, B, stepsA, stepsB, Strip}
 use Rattle.ways.specs.Best.{Best}
 use Rattle.ways.specs.Keppel.{top, trace, traced}
@@ -32,7 +32,7 @@ use Rattle.strip.specs.declared.Valued.the-variants as Valued
 use Rattle.joining.specs.declared.Followed.{Followed}
 use Rattle.joining.specs.declared.Followed.the-variants.{Next, NoneLeft, Refused}
 use Rattle.joining.specs.Cells.{room}
-use Rattle.joining.specs.Table.{Filled}
+use Rattle.joining.specs.Table.{Tabled}
 use Rattle.joining.specs.Walking.{saysA, Turned, turned, left}
 use Rattle.joining.specs.Answers.{Enough, HandedIn, workBytes, NextAnswer}
 use Rattle.joining.specs.Answers as Answers
@@ -93,13 +93,13 @@ as-handed {a} {b} {m} {n} l p s = record {
 -- ---- BELOW
 
 -- the table's last value is that of a strip
-attains : {a b : List ℤ} {m n : ℕ} {l l′ : List ℕ} {g : ℤ} → PairCounts a b m n → Filled (worths a b) m n l l′ g
+attains : {a b : List ℤ} {m n : ℕ} {l l′ : List ℕ} {g : ℤ} → PairCounts a b m n → Tabled (worths a b) m n l l′ g
     → g ≡ W a b (traced (worths a b) (count a) (count b))
 attains {a} {b} p f =
     f .value ∙ ap₂ (top (worths a b)) (p .countA) (p .countB) ∙ sym (attained (worths a b) (count a) (count b) .1)
 
 pub below-is : {a b : List ℤ} {m n : ℕ} {strip work l l′ : List ℕ} {v g : ℤ} → PairCounts a b m n → Enough a b strip work
-    → Handed a b m n strip v → Filled (worths a b) m n l l′ g → ltZ v g ≡ true
+    → Handed a b m n strip v → Tabled (worths a b) m n l l′ g → ltZ v g ≡ true
     → NextAnswer a b strip work strip work (Refused (at Below 0))
 unfolding as-handed
 below-is {a} {b} {strip = strip} {v = v} {g = g} p e h f less =
@@ -110,7 +110,7 @@ below-is {a} {b} {strip = strip} {v = v} {g = g} p e h f less =
 -- ---- the strip handed in is best
 
 best-of : {a b : List ℤ} {m n : ℕ} {strip l l′ : List ℕ} {v g : ℤ} → PairCounts a b m n → (h : Handed a b m n strip v)
-    → Filled (worths a b) m n l l′ g → ltZ v g ≡ false → Best (Strip m n) (value (worths a b)) (h .strip .steps)
+    → Tabled (worths a b) m n l l′ g → ltZ v g ≡ false → Best (Strip m n) (value (worths a b)) (h .strip .steps)
 best-of {a} {b} {v = v} {g = g} p h f same =
     value-best (worths a b) (h .strip .strip)
     (≤ℤ-antisym (greatest (worths a b) (h .strip .strip))
@@ -118,7 +118,7 @@ best-of {a} {b} {v = v} {g = g} p h f same =
 
 pub record NextParts (a b : List ℤ) (strip work strip′ work′ : List ℕ) (v g : ℤ) (turns : Bool) (l l′ : List ℕ) (m n : ℕ) : Type 0 where
   pub handed : Handed a b m n strip v
-  pub filled : Filled (worths a b) m n l l′ g
+  pub filled : Tabled (worths a b) m n l l′ g
   pub notLess : ltZ v g ≡ false
   pub turned : Turned l′ n (handed .strip .steps) strip strip′ turns
   pub zeros : work′ ≡ replicate (room ((m + 1) * (n + 1))) 0 ++ drop (room ((m + 1) * (n + 1))) work

@@ -9,7 +9,7 @@ use lib.IntN.{ℤ}
 use lib.ListN.{length, drop, replicate}
 use Rattle.fault.specs.declared.Refusal.{Refusal}
 use Rattle.trace.specs.Points.{count}
-use Rattle.trace.proofs.PairLaws.{PairCounts}
+use Rattle.trace.specs.Pair.{PairCounts}
 use Rattle.ways.specs.Strip.{Step}
 use Rattle.ways.specs.Keppel.{traced}
 use Rattle.ways.proofs.Greatest.{attained}
@@ -19,7 +19,7 @@ use Rattle.joining.specs.declared.Run.{Run}
 use Rattle.joining.specs.declared.Run.the-variants.{Lines, Refused}
 use Rattle.joining.specs.declared.lines.Counted.{Counted}
 use Rattle.joining.specs.Cells.{room}
-use Rattle.joining.specs.Table.{Filled}
+use Rattle.joining.specs.Table.{Tabled}
 use Rattle.joining.specs.Answers.{workBytes}
 use Rattle.joining.specs.Listing.{Beginning, EnoughLines, ListAnswer, listed}
 use Rattle.joining.specs.Listing as Listing
@@ -65,7 +65,7 @@ short-marks {a} {b} {m} {n} {limit} {lines} {work} p h e =
 -- ---- the run
 
 pub record ListParts (a b : List ℤ) (limit : ℕ) (lines work lines′ work₁ work′ : List ℕ) (g : ℤ) (r : Counted) (m n : ℕ) : Type 0 where
-  pub filled : Filled (worths a b) m n work work₁ g
+  pub filled : Tabled (worths a b) m n work work₁ g
   pub written : WroteLines (worths a b) m n limit lines lines′ r
   pub zeros : work′ ≡ replicate (room ((m + 1) * (n + 1))) 0 ++ drop (room ((m + 1) * (n + 1))) work₁
 

@@ -13,7 +13,7 @@ use Rattle.ways.specs.Keppel.{pointer, alsoB, trace}
 use Rattle.ways.proofs.TopLaws.{pointer-first, pointer-left}
 use Rattle.ways.proofs.Traced.{trace-cong}
 use Rattle.joining.specs.Cells.{room}
-use Rattle.joining.specs.Table.{markOf, Filled}
+use Rattle.joining.specs.Table.{markOf, Tabled}
 use Rattle.joining.specs.Walking.{saysA, saysB, Leads}
 use Rattle.joining.proofs.CellLaws.{room-fits}
 
@@ -30,7 +30,7 @@ bit-b true false = refl
 bit-b false true = refl
 bit-b false false = refl
 
-module _ {w : Worths} {m n : ℕ} {l l′ : List ℕ} {r : ℤ} (f : Filled w m n l l′ r) where
+module _ {w : Worths} {m n : ℕ} {l l′ : List ℕ} {r : ℤ} (f : Tabled w m n l l′ r) where
   pub says-a : (i j : ℕ) → i ≤ m → j ≤ n → saysA l′ n i j ≡ pointer w i j
   unfolding saysA markOf
   says-a i j h k = ap (λ (t : ℕ). eqb (t % 2) 1) (f .marks i j h k) ∙ bit-a (pointer w i j) (alsoB w i j)

@@ -22,7 +22,7 @@ use Rattle.strip.proofs.BytesLaws.{bytes-length}
 use Rattle.joining.specs.declared.walking.Turning.{Turning}
 use Rattle.joining.specs.declared.walking.Turning.the-variants.{Turn, Nowhere}
 use Rattle.joining.specs.Cells.{room}
-use Rattle.joining.specs.Table.{Filled}
+use Rattle.joining.specs.Table.{Tabled}
 use Rattle.joining.specs.Walking.{saysA, saysB, TurnOf, turn, nowhere, Marked, Turned, turned}
 use Rattle.joining.proofs.MarkLaws.{says-b, filled-leads, filled-trace}
 use Rattle.joining.proofs.TurnLaws.{counts-a}
@@ -134,7 +134,7 @@ turned-is {l} {m} {n} {strip} {strip′} {at} {i} {j} s u d e =
 
 -- ---- a filled table is marked, and the turned strip is the next one
 
-pub filled-marked : {w : Worths} {m n : ℕ} {l l′ : List ℕ} {r : ℤ} → Filled w m n l l′ r → m ≤ 250 → n ≤ 250
+pub filled-marked : {w : Worths} {m n : ℕ} {l l′ : List ℕ} {r : ℤ} → Tabled w m n l l′ r → m ≤ 250 → n ≤ 250
     → room ((m + 1) * (n + 1)) ≤ length l → Marked l′ m n
 filled-marked {w} f h k g = record {
   leads = filled-leads f h k g;
@@ -142,11 +142,11 @@ filled-marked {w} f h k g = record {
 }
 
 -- a step A of a strip leads into a pair of the table
-also : {w : Worths} {m n : ℕ} {l l′ : List ℕ} {r : ℤ} {t : List Step} → Filled w m n l l′ r → Strip m n t → (x z : List Step) → t ≡ x ++ A ∷ z
+also : {w : Worths} {m n : ℕ} {l l′ : List ℕ} {r : ℤ} {t : List Step} → Tabled w m n l l′ r → Strip m n t → (x z : List Step) → t ≡ x ++ A ∷ z
     → saysB l′ n (suc (stepsA x)) (stepsB x) ≡ alsoB w (suc (stepsA x)) (stepsB x)
 also f s x z e = let c = counts-a x z s e in says-b f (suc (stepsA x)) (stepsB x) (omega (arith, c .0)) (c .1)
 
-pub turned-next : {w : Worths} {m n : ℕ} {l l′ : List ℕ} {r : ℤ} {t : List Step} → Filled w m n l l′ r → Best (Strip m n) (value w) t
+pub turned-next : {w : Worths} {m n : ℕ} {l l′ : List ℕ} {r : ℤ} {t : List Step} → Tabled w m n l l′ r → Best (Strip m n) (value w) t
     → (x z : List Step) → t ≡ x ++ A ∷ z → saysB l′ n (suc (stepsA x)) (stepsB x) ≡ true
     → ((x′ z′ : List Step) → t ≡ x′ ++ A ∷ z′ → length x′ < length x → saysB l′ n (suc (stepsA x′)) (stepsB x′) ≡ false)
     → NextBest (Strip m n) (value w) t (trace (saysA l′ n) (length x) (suc (stepsA x)) (pred (stepsB x)) ++ B ∷ z)
@@ -156,6 +156,6 @@ turned-next {w} {m} {n} {l} {l′} {r} {t} f b x z e y early =
     (sym (filled-trace f (length x) (suc (stepsA x)) (pred (stepsB x)) (omega (arith, c .0)) (omega (arith, c .1))))
     (next-by-turn w b x z e (sym (also f (b .is) x z e) ∙ y) (λ x′ z′ e′ h. sym (also f (b .is) x′ z′ e′) ∙ early x′ z′ e′ h))
 
-pub left-none : {w : Worths} {m n : ℕ} {l l′ : List ℕ} {r : ℤ} {t : List Step} → Filled w m n l l′ r → Best (Strip m n) (value w) t
+pub left-none : {w : Worths} {m n : ℕ} {l l′ : List ℕ} {r : ℤ} {t : List Step} → Tabled w m n l l′ r → Best (Strip m n) (value w) t
     → ((x z : List Step) → t ≡ x ++ A ∷ z → saysB l′ n (suc (stepsA x)) (stepsB x) ≡ false) → NoneLeft (Strip m n) (value w) t
 left-none {w} f b none = none-by-turn w b (λ x z e. sym (also f (b .is) x z e) ∙ none x z e)

@@ -17,7 +17,7 @@ use mir.Val.{boolByte}
 use Rattle.ways.specs.Value.{Worths}
 use Rattle.ways.proofs.TopLaws.{Agree, top-agree, pointer-agree, alsoB-agree}
 use Rattle.joining.specs.Copies.{Wrapped, Differences}
-use Rattle.joining.specs.Table.{Outline, outline, worthsOf, Bounded, markOf, Filled}
+use Rattle.joining.specs.Table.{Outline, outline, worthsOf, Bounded, markOf, Tabled}
 
 -- ---- one coordinate
 
@@ -107,7 +107,7 @@ is-outline {c} {m} {x} {y} {dx} {dy} a e wx wy ex ey = record {
   dy = subst (λ (t : ℕ). Differences y t dy) e ey;
 }
 
-pub filled-agree : {v w : Worths} {m n : ℕ} {work work′ : List ℕ} {r : ℤ} → Agree v w m n → Filled v m n work work′ r → Filled w m n work work′ r
+pub filled-agree : {v w : Worths} {m n : ℕ} {work work′ : List ℕ} {r : ℤ} → Agree v w m n → Tabled v m n work work′ r → Tabled w m n work work′ r
 unfolding markOf
 filled-agree {m = m} {n = n} g f = record {
   value = f .value ∙ top-agree g m n (omega arith) (omega arith);
@@ -119,5 +119,5 @@ filled-agree {m = m} {n = n} g f = record {
 pub agree-as : {v w : Worths} {m n m′ n′ : ℕ} → m ≡ m′ → n ≡ n′ → Agree v w m′ n′ → Agree v w m n
 agree-as {v} {w} {m} {n} {m′} {n′} p q g = subst (λ (t : ℕ). Agree v w t n) (sym p) (subst (λ (t : ℕ). Agree v w m′ t) (sym q) g)
 
-pub filled-is : {w : Worths} {m n : ℕ} {work work′ : List ℕ} {r r′ : ℤ} → r′ ≡ r → Filled w m n work work′ r → Filled w m n work work′ r′
+pub filled-is : {w : Worths} {m n : ℕ} {work work′ : List ℕ} {r r′ : ℤ} → r′ ≡ r → Tabled w m n work work′ r → Tabled w m n work work′ r′
 filled-is e f = record { value = e ∙ f .value; long = f .long; marks = f .marks; rest = f .rest }

@@ -18,7 +18,7 @@ use Rattle.ways.proofs.Traced.{traced-first}
 use Rattle.ways.proofs.Runs.{Chain, one, more, chain-onward, onward-head, onward-exists, list-exists}
 use Rattle.strip.specs.Bytes.{bytes, IsStrip}
 use Rattle.strip.proofs.BytesLaws.{bytes-length}
-use Rattle.joining.specs.Table.{Filled}
+use Rattle.joining.specs.Table.{Tabled}
 use Rattle.joining.specs.Walking.{saysA, Added, added, stopped, CanTurn, can, cannot}
 use Rattle.joining.specs.Listing.{lined}
 use Rattle.joining.specs.Lines.{BeginningOf, all, some, WroteLines}
@@ -56,7 +56,7 @@ strip-bytes {t = t} s = bytes-length t ∙ strip-length s
 
 module _ {w : Worths} {m n : ℕ} where
   -- the first line, as it is traced
-  pub lines-begun : {l l′ : List ℕ} {r : ℤ} (lines lines₁ : List ℕ) → Filled w m n l l′ r → m + n ≤ length lines
+  pub lines-begun : {l l′ : List ℕ} {r : ℤ} (lines lines₁ : List ℕ) → Tabled w m n l l′ r → m + n ≤ length lines
       → lines₁ ≡ bytes (trace (saysA l′ n) (m + n) m n) ++ drop (m + n) lines → LinesSo w m n lines₁ 1 0 lines₁
   lines-begun {l} {l′} lines lines₁ f h e =
       let first = traced-first w m n .best in
@@ -102,7 +102,7 @@ module _ {w : Worths} {m n : ℕ} where
         (h .0, listed (t ∷ h .0) (on x (subst (Onward (Strip m n) (value w) t) (h .1) (o .1))))
 
   -- one line more
-  pub lines-more : {l l′ : List ℕ} {r : ℤ} {lines₀ lines part′ : List ℕ} {count last : ℕ} → Filled w m n l l′ r
+  pub lines-more : {l l′ : List ℕ} {r : ℤ} {lines₀ lines part′ : List ℕ} {count last : ℕ} → Tabled w m n l l′ r
       → (so : LinesSo w m n lines₀ count last lines) → Added l′ n (so .final) (drop last lines) part′ true
       → length (take last lines ++ part′) ≡ length lines → LinesSo w m n lines₀ (count + 1) (last + (m + n)) (take last lines ++ part′)
   lines-more {l} {l′} {r} {lines₀} {lines} {part′} {count} {last} f so (added x z e y early q) long =
@@ -157,12 +157,12 @@ module _ {w : Worths} {m n : ℕ} where
       → WroteLines w m n limit start lines (record { count = count; more = go-on })
   wrote start so h s b e x = record { strips = so .strips; counted = so .counted; beginning = x; front = ending start h s b e so }
 
-  pub stopped-all : {l l′ : List ℕ} {r : ℤ} {lines₀ lines part′ : List ℕ} {count last limit : ℕ} → Filled w m n l l′ r
+  pub stopped-all : {l l′ : List ℕ} {r : ℤ} {lines₀ lines part′ : List ℕ} {count last limit : ℕ} → Tabled w m n l l′ r
       → (so : LinesSo w m n lines₀ count last lines) → count ≤ limit → Added l′ n (so .final) (drop last lines) part′ false
       → BeginningOf w m n limit (so .strips) false
   stopped-all f so h (stopped none q) = all (lines-all so (left-none f (so .best) none)) (omega (arith, so .counted))
 
-  pub turn-beginning : {l l′ : List ℕ} {r : ℤ} {lines₀ lines : List ℕ} {count last limit : ℕ} {go-on : Bool} → Filled w m n l l′ r
+  pub turn-beginning : {l l′ : List ℕ} {r : ℤ} {lines₀ lines : List ℕ} {count last limit : ℕ} {go-on : Bool} → Tabled w m n l l′ r
       → (so : LinesSo w m n lines₀ count last lines) → count ≡ limit → CanTurn l′ n (so .final) go-on → BeginningOf w m n limit (so .strips) go-on
   turn-beginning f so h (can x z e y early) =
       let later = lines-some so (turned-next f (so .best) x z e y early) in
@@ -192,7 +192,7 @@ module _ {w : Worths} {m n : ℕ} where
   lent-turns so part e f = f (as-lent so part e)
 
   -- the first line, as `wrote` asks it
-  pub first-line : {l l′ : List ℕ} {r : ℤ} (lines : List ℕ) {lines₁ : List ℕ} → Filled w m n l l′ r
+  pub first-line : {l l′ : List ℕ} {r : ℤ} (lines : List ℕ) {lines₁ : List ℕ} → Tabled w m n l l′ r
       → lines₁ ≡ bytes (trace (saysA l′ n) (m + n) m n) ++ drop (m + n) lines
       → (s : List Step) × (length (bytes s) ≡ m + n) × (lines₁ ≡ bytes s ++ drop (m + n) lines)
   first-line {l} {l′} lines f e = (

@@ -16,7 +16,7 @@ use Rattle.ways.specs.Value.{Worths}
 use Rattle.ways.specs.Keppel.{top, pointer, alsoB}
 use Rattle.ways.proofs.TopLaws.{Agree, top-agree, top-origin, top-first, pointer-first, alsoB-left, alsoB-first}
 use Rattle.joining.specs.Cells.{cellOf, room, Put}
-use Rattle.joining.specs.Table.{Outline, outline, worthsOf, markOf, cellAt, BorderReady, BorderDone, RowAt, RowMarked, Ready, Filled}
+use Rattle.joining.specs.Table.{Outline, outline, worthsOf, markOf, cellAt, BorderReady, BorderDone, RowAt, RowMarked, Ready, Tabled}
 use Rattle.joining.proofs.CellLaws.{room-fits}
 use Rattle.joining.proofs.RowLaws.{values-within, mark-cell}
 
@@ -163,7 +163,7 @@ table-more w m n i row work₀ work row′ work′ s h r d = record {
 
 pub table-done : (w : Worths) {u : Worths} (m n i : ℕ) (row : List ℤ) (work work₁ work′ : List ℕ) (v : ℤ) → m ≤ i → RowMarked u 0 n work work₁
     → TableSo w m n i row work₁ work′
-    → v ≡ getD row n (pos 0) → Filled w m n work work′ v
+    → v ≡ getD row n (pos 0) → Tabled w m n work work′ v
 table-done w m n i row work work₁ work′ v h d s e = record {
   value = e ∙ s .rolling .values n (omega arith) ∙ ap (λ (k : ℕ). top w k n) (omega (arith, s .inside));
   long = s .long ∙ d .long;

@@ -9,14 +9,14 @@ use Rattle.ways.specs.Strip.{Step, Strip}
 use Rattle.ways.specs.Value.{Worths, value}
 use Rattle.ways.specs.Best.{Listed}
 use Rattle.joining.specs.declared.lines.Counted.{Counted}
-use Rattle.joining.specs.Table.{Filled}
+use Rattle.joining.specs.Table.{Tabled}
 use Rattle.joining.specs.Listing.{lined}
 
 pub record IsFilled (l : List ℕ) (m n : ℕ) : Type 0 where
   pub w : Worths
   pub before : List ℕ
   pub value : ℤ
-  pub filled : Filled w m n before l value
+  pub filled : Tabled w m n before l value
 
 -- the beginning of the list of best strips, as `Listing.Beginning` says it of two traces
 pub data BeginningOf (w : Worths) (m n limit : ℕ) (l : List (List Step)) : Bool → Type 0 where

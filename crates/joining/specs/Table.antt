@@ -99,7 +99,7 @@ pub record RowMarked (w : Worths) (i n : ℕ) (work work′ : List ℕ) : Type 0
   pub rest : (t : ℕ) → cellAt n i n < t → drop (room t) work′ ≡ drop (room t) work
 
 -- the table is filled: its last value, and every pair's mark
-pub record Filled (w : Worths) (m n : ℕ) (l l′ : List ℕ) (r : ℤ) : Type 0 where
+pub record Tabled (w : Worths) (m n : ℕ) (l l′ : List ℕ) (r : ℤ) : Type 0 where
   pub value : r ≡ top w m n
   pub long : length l′ ≡ length l
   pub marks : (i j : ℕ) → i ≤ m → j ≤ n → cellOf l′ (cellAt n i j) ≡ markOf w i j

@@ -9,12 +9,11 @@ mod walking;
 ghost use mathlib.Core.Path.{_≡_};
 ghost use Prim.Native.Nat.{_+_, _*_, _≤_};
 ghost use lib.ListN.{length, take};
-ghost use Rattle.trace.specs.Points.{count};
-ghost use Rattle.trace.specs.Pair.{at, Pair};
+ghost use Rattle.trace.specs.Pair.{at, PairCounts};
 ghost use Rattle.strip.specs.Worth.{worths};
 ghost use Rattle.strip.specs.Bytes.{IsStrip};
 ghost use Rattle.joining.specs.Cells.{room};
-ghost use Rattle.joining.specs.Table.{Filled};
+ghost use Rattle.joining.specs.Table.{Tabled};
 ghost use Rattle.joining.specs.Listing.{ListAnswer};
 ghost use Rattle.joining.specs.Walking.{Marked, Turned};
 ghost use Rattle.joining.specs.Answers.{BestAnswer, NextAnswer, workBytes};
@@ -52,8 +51,8 @@ pub enum Run {
 
 // Every pair's mark for two accepted traces of m and n points, and the greatest value.
 fn mark_all(a: &[i32], b: &[i32], m: usize, n: usize, work: &mut [u8]) -> i64
-    requires { ⌜ (Pair (now a) (now b)) × (m ≡ count (now a)) × (n ≡ count (now b)) × (room (workBytes (now a) (now b)) ≤ length (now work)) ⌝ }
-    ensures { λ r. ⌜ Filled (worths (now (a .entry)) (now (b .entry))) m n (now (work .entry)) (now (work .exit)) r ⌝ }
+    requires { ⌜ PairCounts (now a) (now b) m n × (room (workBytes (now a) (now b)) ≤ length (now work)) ⌝ }
+    ensures { λ r. ⌜ Tabled (worths (now (a .entry)) (now (b .entry))) m n (now (work .entry)) (now (work .exit)) r ⌝ }
 {
     let ax = wrapped(a, m, 0);
     let ay = wrapped(a, m, 1);

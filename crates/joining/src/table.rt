@@ -6,7 +6,7 @@ ghost use Prim.Native.Nat.{_+_, _*_, _<_};
 ghost use mathlib.Core.Path.{_≡_};
 ghost use mathlib.Core.List.{[]};
 ghost use lib.ListN.{length};
-ghost use Rattle.joining.specs.Table.{outline, worthsOf, CellReady, CellDone, BorderReady, BorderDone, RowAt, RowMarked, Ready, Filled};
+ghost use Rattle.joining.specs.Table.{outline, worthsOf, CellReady, CellDone, BorderReady, BorderDone, RowAt, RowMarked, Ready, Tabled};
 use crate::choice::choose;
 use crate::choice::via;
 use crate::marks::put_mark;
@@ -122,7 +122,7 @@ pub(crate) fn fill(
     bdy: &[i32; 251],
 ) -> i64
     requires { ⌜ Ready (outline (now ax) (now ay) (now adx) (now ady)) (outline (now bx) (now by) (now bdx) (now bdy)) m n (now work) ⌝ }
-    ensures { λ r. ⌜ Filled (worthsOf (outline (now (ax .entry)) (now (ay .entry)) (now (adx .entry)) (now (ady .entry))) (outline (now (bx .entry)) (now (by .entry)) (now (bdx .entry)) (now (bdy .entry)))) m n (now (work .entry)) (now (work .exit)) r ⌝ }
+    ensures { λ r. ⌜ Tabled (worthsOf (outline (now (ax .entry)) (now (ay .entry)) (now (adx .entry)) (now (ady .entry))) (outline (now (bx .entry)) (now (by .entry)) (now (bdx .entry)) (now (bdy .entry)))) m n (now (work .entry)) (now (work .exit)) r ⌝ }
 {
     let mut row = [0i64; 251];
     first_row(&mut row, work, n, ax, ay, bdx, bdy);

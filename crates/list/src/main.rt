@@ -1,6 +1,4 @@
 // The listing program: standard input in, standard output out; all between is `listing`.
-ghost use mathlib.Core.Path.{_≡_};
-ghost use lib.ListN.{length};
 use libc::STDIN_FILENO;
 use libc::STDOUT_FILENO;
 use listing::Listed;

@@ -1,6 +1,5 @@
 // Odd inputs of the listing program, a file each in data/, and what it writes for them: all of it, or of a long one the first line, how
 // many lines and bytes, and the last bytes. Then what happens to the lent slice.
-ghost use mathlib.Core.Path.{_≡_};
 ghost use Prim.Native.Nat.{_≤_};
 ghost use lib.ListN.{length};
 use fault::number;

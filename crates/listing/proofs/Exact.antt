@@ -18,7 +18,7 @@ use Rattle.whole.specs.Between.{Between}
 use Rattle.whole.proofs.Order.{leZ-true, le-leZ}
 use Rattle.whole.proofs.TestLaws.{and-true}
 use Rattle.listing.specs.Words.{words}
-use Rattle.listing.specs.Numeral.{digit, allDigits, amount, natural, inRange, ranged, numeral}
+use Rattle.listing.specs.Numeral.{digit, allDigits, amount, natural, in32Bits, ranged, numeral}
 use Rattle.listing.specs.Asked.{Reading, text, pair, also, numbers, Layer, no, layer, layerOf, withUpper, withLower, laidOut, reads}
 use Rattle.listing.specs.Stated.{Digits, last, more, IsNumber, plain, minus, Numbers, number, Asks}
 use Rattle.listing.proofs.NumeralLaws.{digit-byte, digit-between, natural-yes, no-minus}
@@ -59,16 +59,16 @@ of-natural (b ∷ w) v e = go (allDigits (b ∷ w)) refl e
 -- ---- in range, with its sign
 
 ranged-of : (sign : ℕ → ℤ) (v : ℕ) → Between 2147483648 2147483647 (sign v) → ranged sign (some v) ≡ some (sign v)
-unfolding ranged inRange
+unfolding ranged in32Bits
 ranged-of sign v b = rw (le-leZ (b .low), le-leZ (b .high))
 
 of-ranged : (sign : ℕ → ℤ) (o : Option ℕ) (z : ℤ) → ranged sign o ≡ some z
     → (v : ℕ) × (o ≡ some v) × (Between 2147483648 2147483647 (sign v)) × (z ≡ sign v)
-unfolding ranged inRange
+unfolding ranged in32Bits
 of-ranged sign none z e = none-some e
-of-ranged sign (some v) z e = go (inRange (sign v)) refl e
+of-ranged sign (some v) z e = go (in32Bits (sign v)) refl e
   where
-    go : (t : Bool) → inRange (sign v) ≡ t → cond t (some (sign v)) none ≡ some z
+    go : (t : Bool) → in32Bits (sign v) ≡ t → cond t (some (sign v)) none ≡ some z
         → (u : ℕ) × (some v ≡ some u) × (Between 2147483648 2147483647 (sign u)) × (z ≡ sign u)
     go true t e =
         let both = and-true (leZ (negsuc 2147483647) (sign v)) (leZ (sign v) (pos 2147483647)) t in

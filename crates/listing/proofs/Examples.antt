@@ -6,7 +6,7 @@ use Prim.Native.Nat.{ℕ}
 use lib.IntN.{ℤ, pos, negsuc}
 use Rattle.ways.specs.Strip.{A, B}
 use Rattle.listing.specs.Words.{parting, onto, pieces, filled, words}
-use Rattle.listing.specs.Numeral.{digit, allDigits, amount, natural, inRange, ranged, numeral, digitsWithin, digitsOf, decimal}
+use Rattle.listing.specs.Numeral.{digit, allDigits, amount, natural, in32Bits, ranged, numeral, digitsWithin, digitsOf, decimal}
 use Rattle.listing.specs.Asked.{text, pair, also, numbers, layerOf, withUpper, withLower, laidOut, reads}
 use Rattle.listing.specs.Lines.{fields, valueLine, stripLine, refusedWord, refusedLine}
 
@@ -22,7 +22,7 @@ input =
 
 -- 01's input; nothing at all; and spaces alone
 example-reads : map reads (input ∷ [] ∷ (32 ∷ 10 ∷ []) ∷ []) ≡ pair (pos 0) corners (pos 1) corners ∷ text ∷ text ∷ []
-unfolding input corners reads laidOut withLower withUpper layerOf numbers also words filled pieces onto parting numeral ranged inRange
+unfolding input corners reads laidOut withLower withUpper layerOf numbers also words filled pieces onto parting numeral ranged in32Bits
     natural amount allDigits digit
 example-reads = refl
 
@@ -67,5 +67,5 @@ example-words : map numeral (
     []) ≡
     some (pos 0) ∷ some (pos 0) ∷ some (pos 7) ∷ some (negsuc 6) ∷ some (pos 2147483647) ∷ some (negsuc 2147483647) ∷ none ∷
     none ∷ none ∷ none ∷ none ∷ none ∷ none ∷ none ∷ none ∷ none ∷ []
-unfolding numeral ranged inRange natural amount allDigits digit
+unfolding numeral ranged in32Bits natural amount allDigits digit
 example-words = refl

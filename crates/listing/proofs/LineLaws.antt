@@ -7,11 +7,11 @@ use native.Mathlib.Numerals.{add-one}
 use native.Mathlib.Omega.{arith}
 use lib.ListN.{length, take, drop, set, getD, length-append, length-drop, length-set, length-map, List·getD-map}
 use lib.Seq.{length-take-le, set-split, append-snoc, take-length, take-at, drop-append-add, drop-drop, paste, paste-zero, paste-suc}
-use Rattle.ways.specs.Strip.{Step, A, B}
-use Rattle.strip.specs.Bytes.{bytes}
+use Rattle.ways.specs.Strip.{A}
+use Rattle.strip.specs.Bytes.{stepOf, stepsOf}
 use Rattle.listing.specs.Numeral.{digitsOf}
 use Rattle.listing.specs.Lines.{fields, letter}
-use Rattle.listing.specs.Writing.{Room, Wrote, stepOf, stepsOf}
+use Rattle.listing.specs.Writing.{Room, Wrote}
 use Rattle.listing.proofs.NumeralLaws.{digits-one, digits-tenth}
 
 -- one byte
@@ -140,12 +140,6 @@ wrote-digits {out} {k} {out₁} {n} {out₂} {m} v h w u =
     subst (λ (l : List ℕ). Wrote out k l out₂ m) (sym (digits-tenth v h)) (wrote-then w u)
 
 -- ---- the letters of a strip
-
--- the bytes of a strip say that strip
-pub steps-bytes : (s : List Step) → stepsOf (bytes s) ≡ s
-steps-bytes [] = refl
-steps-bytes (A ∷ s) = ap (λ (t : List Step). A ∷ t) (steps-bytes s)
-steps-bytes (B ∷ s) = ap (λ (t : List Step). B ∷ t) (steps-bytes s)
 
 pub letters-length : (l : List ℕ) → length (map letter (stepsOf l)) ≡ length l
 letters-length l = length-map (stepsOf l) letter ∙ length-map l stepOf

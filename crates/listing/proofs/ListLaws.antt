@@ -3,7 +3,7 @@
 use mathlib.Core.Path.{_≡_, refl, sym, ap, ap₂, _∙_, subst}
 use mathlib.Core.Bool.{Bool, true, false}
 use mathlib.Core.List.{List, [], _∷_, _++_, append-assoc, List·Memᴰ, List·Memᴰ·head, List·Memᴰ·tail, Memᴰ·append-left}
-use Prim.Native.Nat.{ℕ, suc, _+_, _*_, _≤_}
+use Prim.Native.Nat.{ℕ, _+_, _*_, _≤_}
 use native.Mathlib.Omega.{arith}
 use native.Mathlib.Nat.{mul-le-mul}
 use lib.IntN.{ℤ, pos, _+ℤ_, _*ℤ_}
@@ -21,18 +21,17 @@ use Rattle.ways.proofs.Greatest.{strip-length}
 use Rattle.ways.proofs.Complete.{listed-best}
 use Rattle.strip.specs.Worth.{W}
 use Rattle.strip.specs.Band.{bandSix}
-use Rattle.strip.specs.Bytes.{bytes}
-use Rattle.strip.proofs.BytesLaws.{bytes-length}
-use Rattle.joining.specs.Answers.{Between, BestOf}
+use Rattle.strip.specs.Bytes.{bytes, stepsOf}
+use Rattle.strip.proofs.BytesLaws.{bytes-length, steps-bytes}
+use Rattle.joining.specs.Answers.{BestOf}
 use Rattle.joining.specs.Listing.{Beginning, all, some, lined, EnoughLines, ListAnswer, listed}
 use Rattle.joining.specs.Listing as Joining
 use Rattle.joining.specs.declared.Run.{Run}
 use Rattle.joining.specs.declared.Run.the-variants.{Lines, Refused}
 use Rattle.listing.specs.Lines.{valueLine, stripLines, endLine, moreLine}
-use Rattle.listing.specs.Writing.{Room, stepsOf, stripsIn}
+use Rattle.listing.specs.Writing.{Room, stripsIn}
 use Rattle.listing.specs.Listing.{lastLine, BestLines, lines, longest}
 use Rattle.listing.specs.Telling.{linesOf}
-use Rattle.listing.proofs.LineLaws.{steps-bytes}
 use Rattle.listing.proofs.LengthLaws.{value-short}
 use Rattle.listing.proofs.StripLines.{lines-length}
 

@@ -15,7 +15,7 @@ use Rattle.listing.specs.declared.numeral.Spelled.{Spelled}
 use Rattle.listing.specs.declared.numeral.Word.{Word}
 use Rattle.listing.specs.declared.numeral.Word.the-variants.{Number, End, Bad}
 use Rattle.listing.specs.Words.{parting, words}
-use Rattle.listing.specs.Numeral.{allDigits, amount, natural, inRange, ranged, numeral}
+use Rattle.listing.specs.Numeral.{allDigits, amount, natural, in32Bits, ranged, numeral}
 use Rattle.listing.specs.Asked.{also, numbers}
 use Rattle.listing.specs.Stated.{Unparted, next, Gap, gap}
 use Rattle.listing.specs.Scan.{Skipped, cap, Spelling, Spelt, passes, answerOf, numbersAt, Next, end, bad, number}
@@ -32,7 +32,7 @@ answerFor none r = Bad
 answerFor (some z) r = Number z r
 
 -- digits are read as the definition reads them, whatever the sign: `most` is the greatest amount in range
-module _ (sign : ℕ → ℤ) (most : ℕ) (in-range : (v : ℕ) → inRange (sign v) ≡ leb v most) (under : most < cap) where
+module _ (sign : ℕ → ℤ) (most : ℕ) (in-range : (v : ℕ) → in32Bits (sign v) ≡ leb v most) (under : most < cap) where
   -- an amount in range is exact
   exact : (a v : ℕ) → a ≡ min v cap → leb a most ≡ true → a ≡ v
   exact a v e t = omega (arith, leb-true a most t)
@@ -85,12 +85,12 @@ module _ (sign : ℕ → ℤ) (most : ℕ) (in-range : (v : ℕ) → inRange (si
       go true t false q = sym (answer-bad sign most k s (tested true false (d ∙ t) q)) ∙ read false (a (d ∙ t)) t q
 
 -- the two signs
-above : (v : ℕ) → inRange (pos v) ≡ leb v 2147483647
-unfolding inRange
+above : (v : ℕ) → in32Bits (pos v) ≡ leb v 2147483647
+unfolding in32Bits
 above v = refl
 
-below : (v : ℕ) → inRange (negℤ (pos v)) ≡ leb v 2147483648
-unfolding inRange
+below : (v : ℕ) → in32Bits (negℤ (pos v)) ≡ leb v 2147483648
+unfolding in32Bits
 below zero = refl
 below (suc n) = and-true-right (leb n 2147483647) ∙ sym (leb·suc-suc n 2147483647)
 

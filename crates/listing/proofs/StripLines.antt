@@ -9,7 +9,8 @@ use lib.ListN.{length, take, drop, length-append, length-map, length-drop, take-
 use lib.Seq.{length-take-le, drop-drop}
 use Rattle.ways.specs.Strip.{Step}
 use Rattle.listing.specs.Lines.{stripLine, stripLines}
-use Rattle.listing.specs.Writing.{Room, Wrote, stepOf, stepsOf, stripsIn}
+use Rattle.strip.specs.Bytes.{stepOf, stepsOf}
+use Rattle.listing.specs.Writing.{Room, Wrote, stripsIn}
 use Rattle.listing.proofs.LineLaws.{wrote-then, wrote-length}
 use Rattle.listing.proofs.LengthLaws.{strip-length}
 

@@ -1,6 +1,6 @@
 -- What is said of the pair that was read: a trace whose judgement is fit stands whole in its list, with its area; planes that rise are
 -- at most 200,000 apart; and what is written from place 0 on stands at the front. Assumes nothing.
-use mathlib.Core.Path.{_≡_, refl, sym, ap, ap₂, _∙_, subst}
+use mathlib.Core.Path.{_≡_, refl, sym, ap, _∙_, subst}
 use mathlib.Core.List.{List, _++_}
 use Prim.Native.Nat.{ℕ, _*_, _≤_}
 use native.Mathlib.Omega.{arith}
@@ -9,7 +9,6 @@ use lib.ListN.{length, take, drop, length-append}
 use mir.Syntax.{w32, w64}
 use mir.Val.{SFits, toZ, ofZ}
 use mir.ValLaws.{toZ-ofZ}
-use Rattle.whole.specs.Between.{Within}
 use Rattle.whole.proofs.Machine.{Holds, held, from, plus, minus}
 use Rattle.trace.specs.declared.Judgement.{Judgement}
 use Rattle.trace.specs.declared.Judgement.the-variants.{Fit}

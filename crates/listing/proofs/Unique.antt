@@ -1,15 +1,14 @@
 -- Two outcomes that the contract allows for one input coincide: the number of bytes, every byte written and every other. What is read is
 -- one (it is computed), a pair is refused in one way or not at all, and the list of best strips and its value are one. Assumes nothing.
-use mathlib.Core.Path.{_≡_, refl, sym, ap, ap₂, _∙_, subst}
+use mathlib.Core.Path.{_≡_, refl, sym, ap, ap₂, _∙_}
 use mathlib.Core.Bool.{Bool}
 use mathlib.Core.List.{List, _++_}
 use Prim.Native.Nat.{ℕ}
 use native.Mathlib.Omega.{arith}
-use lib.IntN.{ℤ, pos, _+ℤ_, _-ℤ_, _*ℤ_}
+use lib.IntN.{ℤ, pos, _+ℤ_, _*ℤ_}
 use lib.ListN.{length, drop}
 use lib.Signed.{quotZ}
 use Rattle.whole.proofs.Order.{clash}
-use Rattle.fault.specs.declared.Refusal.{Refusal}
 use Rattle.fault.specs.declared.Fault.the-variants.{Planes}
 use Rattle.trace.specs.Points.{twiceArea}
 use Rattle.trace.specs.Pair.{at}
@@ -21,7 +20,6 @@ use Rattle.strip.specs.Band.{bandSix}
 use Rattle.joining.proofs.Exact.{same-beginning}
 use Rattle.listing.specs.declared.Listed.{Listed}
 use Rattle.listing.specs.declared.Listed.the-variants.{Bytes}
-use Rattle.listing.specs.Asked.{Reading, pair}
 use Rattle.listing.specs.Asked as Asked
 use Rattle.listing.specs.Lines.{valueLine, stripLines}
 use Rattle.listing.specs.Pairs.{PlanesWrong, low, high, fall, PlanesRise}

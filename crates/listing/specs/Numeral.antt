@@ -29,12 +29,12 @@ natural [] = none
 natural (b ∷ w) = cond (allDigits (b ∷ w)) (some (amount 0 (b ∷ w))) none
 
 -- "from -2,147,483,648 to 2,147,483,647"
-unfoldable pub inRange : ℤ → Bool
-inRange z = leZ (negsuc 2147483647) z && leZ z (pos 2147483647)
+unfoldable pub in32Bits : ℤ → Bool
+in32Bits z = leZ (negsuc 2147483647) z && leZ z (pos 2147483647)
 
 unfoldable pub ranged : (ℕ → ℤ) → Option ℕ → Option ℤ
 ranged sign none = none
-ranged sign (some v) = cond (inRange (sign v)) (some (sign v)) none
+ranged sign (some v) = cond (in32Bits (sign v)) (some (sign v)) none
 
 -- "one leading minus sign": byte 45
 unfoldable pub numeral : List ℕ → Option ℤ

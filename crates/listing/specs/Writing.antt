@@ -1,11 +1,10 @@
--- What every writer does, and the steps that a strip's bytes say.
+-- What every writer does, and the strips that stand in bytes.
 use mathlib.Core.Path.{_≡_}
-use mathlib.Core.Bool.{cond}
-use mathlib.Core.List.{List, [], _∷_, _++_, map}
+use mathlib.Core.List.{List, [], _∷_, _++_}
 use Prim.Native.Nat.{ℕ, zero, suc, _+_, _≤_}
-use lib.Dec.{eqb}
 use lib.ListN.{length, take, drop}
-use Rattle.ways.specs.Strip.{Step, A, B}
+use Rattle.ways.specs.Strip.{Step}
+use Rattle.strip.specs.Bytes.{stepsOf}
 
 -- there is room for `bytes` from place k on
 pub record Room (out : List ℕ) (k : ℕ) (bytes : List ℕ) : Type 0 where
@@ -16,13 +15,6 @@ pub record Wrote (out : List ℕ) (k : ℕ) (bytes out′ : List ℕ) (n : ℕ) 
   pub next : n ≡ k + length bytes
   pub room : n ≤ length out
   pub whole : out′ ≡ take k out ++ bytes ++ drop n out
-
--- 01: "Step A (byte 0) .. Step B (byte 1)"
-abbrev pub stepOf : ℕ → Step
-stepOf b = cond (eqb b 0) A B
-
-abbrev pub stepsOf : List ℕ → List Step
-stepsOf l = map stepOf l
 
 -- the strips that stand one after the other in bytes, each of so many steps
 unfoldable pub stripsIn : ℕ → ℕ → List ℕ → List (List Step)

@@ -5,7 +5,8 @@ ghost use lib.ListN.{length};
 ghost use mathlib.Core.List.{[], _∷_, map};
 ghost use Rattle.listing.specs.Numeral.{digitsOf, decimal};
 ghost use Rattle.listing.specs.Lines.{letter, valueLine, stripLine, stripLines, endLine, moreLine, refusedLine};
-ghost use Rattle.listing.specs.Writing.{Room, Wrote, stepOf, stepsOf, stripsIn};
+ghost use Rattle.strip.specs.Bytes.{stepOf, stepsOf};
+ghost use Rattle.listing.specs.Writing.{Room, Wrote, stripsIn};
 
 fn put(out: &mut [u8], at: usize, byte: u8) -> usize
     requires { ⌜ Room (now out) at (byte ∷ []) ⌝ }

@@ -4,7 +4,7 @@ ghost use mathlib.Core.List.{List};
 ghost use Prim.Native.Nat.{_≤_};
 ghost use lib.IntN.{ℤ};
 ghost use lib.ListN.{length};
-ghost use Rattle.trace.specs.Judged.{inRange, judged};
+ghost use Rattle.trace.specs.Judged.{judged};
 ghost use Rattle.fault.specs.Number.{numberOf};
 ghost use Rattle.listing.specs.Lines.{refusedLine};
 ghost use Rattle.listing.specs.Writing.{Wrote};
@@ -14,6 +14,7 @@ use fault::Fault;
 use fault::Refusal;
 use fault::number;
 use trace::Judgement;
+use trace::in_range;
 
 // The judgement of a trace of `count` points, of which no more than 250 were kept: over 250 points are MANY, whatever they are.
 pub(crate) fn judge_read(kept: &[i32], count: usize) -> Judgement
@@ -42,12 +43,6 @@ pub(crate) fn tell(out: &mut [u8], refusal: Refusal) -> usize
 pub(crate) enum Planes {
     Rise,
     Wrong(usize),
-}
-
-fn in_range(plane: i32) -> bool
-    ensures { λ r. ⌜ r ≡ inRange plane ⌝ }
-{
-    (-100_000 <= plane) & (plane <= 100_000)
 }
 
 pub(crate) fn judge_planes(lower: i32, upper: i32) -> Planes

@@ -11,13 +11,12 @@ use native.Mathlib.Omega.{arith}
 use lib.IntN.{ℤ}
 use lib.ListN.{length, getD}
 use Rattle.whole.specs.Between.{Within}
-use Rattle.fault.specs.declared.Refusal.{Refusal}
 use Rattle.stack.specs.declared.Layer.{Layer}
 use Rattle.stack.specs.declared.Stack.{Stack}
 use Rattle.stack.specs.declared.StripsJudgement.the-variants as strips-are
 use Rattle.stack.specs.Entries.{entry}
 use Rattle.stack.specs.Faults.{AcceptedStack}
-use Rattle.stack.specs.Strips.{StripsRight, StripsJudged, whole as right}
+use Rattle.stack.specs.Strips.{StripsRight}
 use Rattle.stack.specs.Gathered.{Gathers}
 use Rattle.stack.specs.Laid.{laid}
 use Rattle.stack.proofs.Exact.{refused-once, refused-not-accepted, strips-refused-once, strips-refused-not-right}

@@ -7,8 +7,9 @@ use native.Mathlib.Numerals.{add-one}
 use native.Mathlib.Omega.{arith}
 use lib.IntN.{ℤ}
 use lib.ListN.{length, take, drop, length-append, length-map}
+use Rattle.whole.proofs.Filling.{behind, back}
 use Rattle.ways.specs.Strip.{Step, A, B, Strip}
-use Rattle.strip.proofs.BytesLaws.{is-strip-length}
+use Rattle.strip.proofs.BytesLaws.{is-strip-length, steps-strip}
 use Rattle.stack.specs.declared.Layer.{Layer}
 use Rattle.stack.specs.declared.Stack.{Stack}
 use Rattle.stack.specs.Entries.{entry, stop, start, steps, bandStart}
@@ -18,12 +19,12 @@ use Rattle.stack.specs.Laid.{laid}
 use Rattle.stack.proofs.StackLaws.{accepted-first, accepted-count, band-all, band-within}
 use Rattle.stack.proofs.Laying.{laid-long, laid-twenty, count-at, count-above}
 use Rattle.mesh.specs.Triangles.{Tri, bandFrom}
-use Rattle.mesh.specs.Closed.{ring, stepsOf, bandOf, bandsTo, floorOf, roofOf, closed, triangles}
+use Rattle.strip.specs.Bytes.{stepsOf}
+use Rattle.mesh.specs.Closed.{ring, bandOf, bandsTo, floorOf, roofOf, closed, triangles}
 use Rattle.mesh.specs.Working.{Fitted}
-use Rattle.mesh.specs.Writing.{Filled, Numbered, Drawn}
-use Rattle.mesh.proofs.StepBytes.{steps-strip}
+use Rattle.mesh.specs.Writing.{Put, Numbered, Drawn}
 use Rattle.mesh.proofs.Parts.{upper, part-end, part-is}
-use Rattle.mesh.proofs.WriteLaws.{Wrote, wrote-none, wrote-more, behind, back, Fan, floor-fan, roof-fan}
+use Rattle.mesh.proofs.WriteLaws.{Wrote, wrote-none, wrote-more, Fan, floor-fan, roof-fan}
 
 -- ---- how many
 
@@ -121,8 +122,8 @@ module _ {st : Stack} {l : List ℕ} (r : Drawn st l) (k : ℕ) {at : ℕ} {d e 
     omega (arith, cut-length, part-end st k a p q),
   )
 
-  pub band-filled : {old new : List ℕ} → Filled (bandFrom (ring d) (ring e) 0 0 (stepsOf cut)) old new
-      → Filled (bandOf (laid st) l k) old new
+  pub band-filled : {old new : List ℕ} → Put (bandFrom (ring d) (ring e) 0 0 (stepsOf cut)) old new
+      → Put (bandOf (laid st) l k) old new
   unfolding bandOf
   band-filled f = rw (← part-is st k a p q l, ← p, ← upper st k q) f
 
@@ -147,20 +148,20 @@ module _ {st : Stack} {l : List ℕ} (r : Drawn st l) {k at : ℕ} {old out : Li
   bands-behind h = omega (arith, bands-room h, s .start)
 
   pub bands-more : {next : ℕ} {part : List ℕ} → suc k < st .layers → next ≡ bandStart (laid st) (suc k)
-      → Filled (bandOf (laid st) l k) (behind (3 * at) out) part → length part ≡ length (behind (3 * at) out)
+      → Put (bandOf (laid st) l k) (behind (3 * at) out) part → length part ≡ length (behind (3 * at) out)
       → BandsSo st l (k + 1) next old (back (3 * at) out part)
   unfolding bandsTo bandStart
   bands-more {next} h e f g = rw (add-one k) (record {
     here = omega arith;
     start = e;
-    wrote = wrote-more (3 * next) (s .wrote) (bands-behind h) f g
+    wrote = wrote-more (3 * next) (s .wrote) f g
         (omega (arith, s .start, band-length (r .strips) k (omega (arith, laid-long st))));
   })
 
-  pub bands-done : st .layers ≤ k + 1 → Filled (bandsTo (laid st) l (st .layers - 1)) old out
+  pub bands-done : st .layers ≤ k + 1 → Put (bandsTo (laid st) l (st .layers - 1)) old out
   bands-done h =
       let e : k ≡ st .layers - 1 = omega (arith, s .here) in
-      subst (λ (n : ℕ). Filled (bandsTo (laid st) l n) old out) e (s .wrote .filled)
+      subst (λ (n : ℕ). Put (bandsTo (laid st) l n) old out) e (s .wrote .filled)
 
 -- ---- the whole list
 
@@ -192,7 +193,7 @@ module _ {st : Stack} {l : List ℕ} {n : ℕ} {old : List ℕ} {d g : Layer} (a
   pub top-drawn : Numbered g
   top-drawn = rw (a .top) (a .drawn .numbered (st .layers - 1) (omega (arith, a .drawn .some)))
 
-  module _ {out : List ℕ} (f : Filled (bandsOf st l) old out) (e : length out ≡ length old) where
+  module _ {out : List ℕ} (f : Put (bandsOf st l) old out) (e : length out ≡ length old) where
     bands-wrote : Wrote (bandsOf st l) (3 * n) old out
     bands-wrote = record {
       many = ap (λ (n : ℕ). 3 * n)
@@ -205,21 +206,21 @@ module _ {st : Stack} {l : List ℕ} {n : ℕ} {old : List ℕ} {d g : Layer} (a
     pub floor-room : 3 * n + 3 * (d .count - 2) + 3 * (g .count - 2) ≤ length out
     floor-room = omega (arith, whole-room)
 
-    module _ {part : List ℕ} (ff : Filled (floorOf d) (behind (3 * n) out) part) (fe : length part ≡ length (behind (3 * n) out)) where
+    module _ {part : List ℕ} (ff : Put (floorOf d) (behind (3 * n) out) part) (fe : length part ≡ length (behind (3 * n) out)) where
       floor-wrote : Wrote (bandsOf st l ++ floorOf d) (3 * n + 3 * (d .count - 2)) old (back (3 * n) out part)
-      floor-wrote = wrote-more (3 * n + 3 * (d .count - 2)) bands-wrote (omega (arith, floor-room)) ff fe (omega (arith, floor-length d))
+      floor-wrote = wrote-more (3 * n + 3 * (d .count - 2)) bands-wrote ff fe (omega (arith, floor-length d))
 
       pub roof-room : 3 * n + 3 * (d .count - 2) + 3 * (g .count - 2) ≤ length (back (3 * n) out part)
       roof-room = omega (arith, whole-room, floor-wrote .long)
 
-      pub whole-filled : {last : List ℕ} → Filled (roofOf g) (behind (3 * n + 3 * (d .count - 2)) (back (3 * n) out part)) last
+      pub whole-filled : {last : List ℕ} → Put (roofOf g) (behind (3 * n + 3 * (d .count - 2)) (back (3 * n) out part)) last
           → length last ≡ length (behind (3 * n + 3 * (d .count - 2)) (back (3 * n) out part))
-          → Filled (closed (laid st) l) old (back (3 * n + 3 * (d .count - 2)) (back (3 * n) out part) last)
+          → Put (closed (laid st) l) old (back (3 * n + 3 * (d .count - 2)) (back (3 * n) out part) last)
       unfolding closed
       whole-filled {last} rf re =
           let m = 3 * n + 3 * (d .count - 2) in
           let list : bandsOf st l ++ floorOf d ++ roofOf g ≡ closed (laid st) l =
           ap₂ (λ (k : ℕ) (t : List Tri). bandsTo (laid st) l (k - 1) ++ t ++ roofOf g) (sym (laid-long st)) (ap floorOf (a .bottom))
           ∙ ap (λ (t : Layer). bandsTo (laid st) l (length (laid st) - 1) ++ floorOf (entry (laid st) 0) ++ roofOf t) top-layer in
-          subst (λ (ts : List Tri). Filled ts old (back m (back (3 * n) out part) last)) list
-          (wrote-more (m + 3 * length (roofOf g)) floor-wrote (omega (arith, roof-room)) rf re refl .filled)
+          subst (λ (ts : List Tri). Put ts old (back m (back (3 * n) out part) last)) list
+          (wrote-more (m + 3 * length (roofOf g)) floor-wrote rf re refl .filled)

@@ -3,7 +3,6 @@ pub mod Answers
 pub mod Balance
 pub mod Volumes
 mod Rings
-mod StepBytes
 mod Parts
 mod Stacked
 mod SixLaws

@@ -30,8 +30,9 @@ use Rattle.mesh.specs.Closed.{closed, triangles}
 use Rattle.mesh.specs.Bands.{sixOf}
 use Rattle.mesh.specs.Meshing.{Measured, six, Triangled, room, whole}
 use Rattle.mesh.specs.Working.{Fitted, Sized}
-use Rattle.mesh.specs.Writing.{Filled}
+use Rattle.mesh.specs.Writing.{Put}
 use Rattle.mesh.proofs.Answers.{volume-bounded}
+use Rattle.mesh.proofs.WriteLaws.{numbers-length}
 use Rattle.mesh.proofs.ClosedLaws.{closed-length}
 
 -- the entries that the arrays hold
@@ -96,8 +97,8 @@ roomy {st} {es} out a g f h =
     subst (λ (es : List Layer). 3 * triangles es ≤ length out) (sym e) (omega arith)
 
 pub triangled : {st : Stack} {c : List ℤ} {l old new : List ℕ} {v : ℤ} {n : ℕ} → Fitted st c l → v ≡ sixOf (laid st) c l
-    → n ≡ triangles (laid st) → 3 * n ≤ length old → Filled (closed (laid st) l) old new
+    → n ≡ triangles (laid st) → 3 * n ≤ length old → Put (closed (laid st) l) old new
     → (es : List Layer) → Gathers st es → Triangled es c l old new (mesh-is.Closed n (toZ w64 (ofZ w64 v)))
 triangled {st} {c} {l} {old} {new} {v} {n} f e h r w = for-gathered _ st (laid-twenty st (f .stack .layers))
-    (rw (six-read f e, h, w .filled, closed-length (f .strips) (omega (arith, f .stack .layers .two)))
+    (rw (six-read f e, h, w .filled .filled, numbers-length (closed (laid st) l), closed-length (f .strips) (omega (arith, f .stack .layers .two)))
     (whole (f .stack) (omega arith) (f .strips)))

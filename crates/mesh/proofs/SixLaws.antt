@@ -39,11 +39,11 @@ use Rattle.stack.specs.Strips.{bandPart}
 use Rattle.stack.specs.Laid.{laid}
 use Rattle.stack.proofs.StackLaws.{accepted-points, accepted-pair, accepted-plane, accepted-steps, band-within}
 use Rattle.stack.proofs.Laying.{laid-long, laid-twenty}
-use Rattle.mesh.specs.Closed.{stepsOf}
+use Rattle.strip.specs.Bytes.{stepsOf}
 use Rattle.mesh.specs.Bands.{rule, bandRule, sixOf}
 use Rattle.mesh.specs.Working.{Joined, Fitted}
 use Rattle.mesh.proofs.Parts.{upper}
-use Rattle.mesh.proofs.StepBytes.{strip-steps, steps-strip}
+use Rattle.strip.proofs.BytesLaws.{strip-steps, steps-strip}
 use Rattle.mesh.proofs.Stacked.{sums-within}
 
 -- ---- judgements

@@ -15,9 +15,7 @@ use Rattle.whole.specs.Sum.{sum}
 use Rattle.whole.proofs.Linear.{up, up-pos, dn-pos, zsum, znat}
 use Rattle.whole.proofs.Bounds.{between, between-wider, between-sum, between-mul, zero-within}
 use Rattle.ways.specs.Strip.{Strip}
-use Rattle.trace.specs.Points.{count, twiceArea}
-use Rattle.trace.specs.Pair.{Pair}
-use Rattle.trace.proofs.PointLaws.{area-within}
+use Rattle.trace.specs.Points.{count}
 use Rattle.strip.specs.Worth.{W, partA}
 use Rattle.strip.proofs.SameAmount.{W-even, W-half}
 use Rattle.strip.specs.Band.{bandSix}
@@ -27,10 +25,11 @@ use Rattle.stack.specs.Entries.{entry, traceOf}
 use Rattle.stack.specs.Faults.{AcceptedStack}
 use Rattle.stack.specs.Strips.{bandPart, StripsRight}
 use Rattle.stack.proofs.StackLaws.{accepted-points, accepted-pair, accepted-inside, accepted-plane, accepted-rise}
-use Rattle.mesh.specs.Closed.{stepsOf, bandOf, bandsTo}
+use Rattle.strip.specs.Bytes.{stepsOf}
+use Rattle.mesh.specs.Closed.{bandOf, bandsTo}
 use Rattle.mesh.specs.Bands.{rule, bandRule, xOf, yOf, zOf}
 use Rattle.mesh.proofs.Rings.{ringOf, area-ring, value-ring, z-ring, some-points}
-use Rattle.mesh.proofs.StepBytes.{steps-strip}
+use Rattle.strip.proofs.BytesLaws.{steps-strip}
 use Rattle.mesh.proofs.Volumes.{Band, BandSum, none, upon}
 
 -- ---- how far the planes rise

@@ -13,7 +13,8 @@ use Rattle.stack.specs.Faults.{AcceptedStack}
 use Rattle.stack.specs.Strips.{bandPart}
 use Rattle.stack.proofs.StackLaws.{accepted-inside, accepted-count}
 use Rattle.mesh.specs.Triangles.{bandFrom, roofFrom, floorFrom}
-use Rattle.mesh.specs.Closed.{ring, stepsOf, bandOf, bandsTo, floorOf, roofOf, closed, numbers}
+use Rattle.strip.specs.Bytes.{stepsOf}
+use Rattle.mesh.specs.Closed.{ring, bandOf, bandsTo, floorOf, roofOf, closed, numbers}
 use Rattle.mesh.proofs.WriteLaws.{numbers-append}
 
 -- every number of a list is below n

@@ -1,21 +1,25 @@
--- Writing at the front of a part: what is written so far, and one writer more on the part behind it, is both written at the front
--- of the whole. This one law serves every writer that lends a part on; the loops add to it what is still to come. Assumes nothing.
+-- Triangles written so far, and one writer more on the part behind them: both stand at the front of the whole. This is the law
+-- `filled-more` of all writers, with three numbers a triangle; the loops add to it what is still to come. Assumes nothing.
 use mathlib.Core.Path.{_≡_, refl, sym, ap, ap₂, _∙_, subst}
 use mathlib.Core.List.{List, [], _∷_, _++_, append-assoc, append-nil}
-use Prim.Native.Nat.{ℕ, zero, suc, _+_, _-_, _*_, _%_, _≤_, _<_}
+use Prim.Native.Nat.{ℕ, suc, _+_, _-_, _*_, _%_, _≤_, _<_}
 use native.Mathlib.Nat.{add-zero, mod-self, mod-eq-of-lt}
 use native.Mathlib.Numerals.{add-one}
 use native.Mathlib.Omega.{arith}
-use lib.ListN.{length, getD, take, drop, set, length-append, length-drop}
-use lib.Seq.{take-all, take-at, drop-at, drop-drop, drop-length, drop-cons}
-use borrow.Rule.Slice.PartMut.{putMid, post-is, same-len-mid}
+use lib.ListN.{length, getD, drop, set, length-append, length-drop}
+use lib.Seq.{drop-length, drop-cons}
+use Rattle.whole.specs.Filled.{Filled}
+use Rattle.whole.proofs.Parts.{part-lent}
+use Rattle.whole.proofs.Filling.{behind, back, filled-more, back-long}
 use Rattle.ways.specs.Strip.{Step, A, B, stepsA, stepsB, Strip}
 use Rattle.ways.proofs.Way.{Ends}
 use Rattle.stack.specs.declared.Layer.{Layer}
 use Rattle.mesh.specs.declared.writers.Pair.{Pair}
 use Rattle.mesh.specs.Triangles.{Tri, bandFrom, floorFrom, roofFrom}
-use Rattle.mesh.specs.Closed.{ring, stepOf, stepsOf, numbers}
-use Rattle.mesh.specs.Writing.{Filled, tri, Numbered, stepTri, floorTri, roofTri, StepReady, Stepped}
+use Rattle.strip.specs.Bytes.{stepOf, stepsOf}
+use Rattle.strip.proofs.BytesLaws.{byte-a, byte-b}
+use Rattle.mesh.specs.Closed.{ring, numbers}
+use Rattle.mesh.specs.Writing.{Put, tri, Numbered, stepTri, floorTri, roofTri, StepReady, Stepped}
 
 -- ---- the numbers of triangles
 
@@ -30,7 +34,7 @@ numbers-length [] = refl
 numbers-length (t ∷ ts) = omega (arith, numbers-length ts)
 
 -- one triangle, number by number
-pub put-filled : (l : List ℕ) (u v w : ℕ) → 3 ≤ length l → Filled (tri u v w ∷ []) l (set (set (set l 0 u) 1 v) 2 w)
+pub put-filled : (l : List ℕ) (u v w : ℕ) → 3 ≤ length l → Put (tri u v w ∷ []) l (set (set (set l 0 u) 1 v) 2 w)
 unfolding numbers
 put-filled [] u v w h = absurd (none h)
   where
@@ -44,58 +48,36 @@ put-filled (a ∷ b ∷ []) u v w h = absurd (none h)
   where
     none : 3 ≤ 2 → ⊥
     none h = omega arith
-put-filled (a ∷ b ∷ c ∷ l) u v w h = record { filled = refl }
+put-filled (a ∷ b ∷ c ∷ l) u v w h = record { filled = record { filled = refl } }
 
 -- ---- what is written so far
 
 -- the triangles ts, and the next ones begin at n
 pub record Wrote (ts : List Tri) (n : ℕ) (old new : List ℕ) : Type 0 where
   pub many : 3 * length ts ≡ n
-  pub filled : Filled ts old new
+  pub filled : Put ts old new
   pub long : length new ≡ length old
 
 pub wrote-none : (l : List ℕ) → Wrote [] 0 l l
 unfolding numbers
-wrote-none l = record { many = refl; filled = record { filled = refl }; long = refl }
-
--- the part from n on
-abbrev pub behind : ℕ → List ℕ → List ℕ
-behind n l = take (length l - n) (drop n l)
-
--- and the whole with p in its place
-abbrev pub back : ℕ → List ℕ → List ℕ → List ℕ
-back n l p = putMid n (length l - n) l p
-
-behind-is : (n : ℕ) (l : List ℕ) → behind n l ≡ drop n l
-behind-is n l = take-all (length l - n) (drop n l) (simp length-drop (omega arith))
+wrote-none l = record { many = refl; filled = record { filled = record { filled = refl } }; long = refl }
 
 pub behind-long : (n : ℕ) (l : List ℕ) → length (behind n l) ≡ length l - n
-behind-long n l = ap length (behind-is n l) ∙ length-drop n l
-
-back-is : (n : ℕ) (l p : List ℕ) → n ≤ length l → back n l p ≡ take n l ++ p
-back-is n l p h =
-    ap (λ (r : List ℕ). take n l ++ (p ++ r)) (post-is n (length l) l h ∙ drop-length l) ∙ ap (λ (r : List ℕ). take n l ++ r) (append-nil p)
+behind-long n l = ap length (part-lent n l) ∙ length-drop n l
 
 -- one writer more, lent the part behind what is written
-pub wrote-more : {ts us : List Tri} {n : ℕ} {old l p : List ℕ} (m : ℕ) → Wrote ts n old l → n ≤ length l
-    → Filled us (behind n l) p → length p ≡ length (behind n l) → m ≡ n + 3 * length us → Wrote (ts ++ us) m old (back n l p)
-wrote-more {ts} {us} {n} {old} {l} {p} m w h f e q =
-    let sized : length (numbers ts) ≡ n = numbers-length ts ∙ w .many in
-    let front : take n l ≡ numbers ts = ap (take n) (w .filled .filled) ∙ take-at (numbers ts) (drop (3 * length ts) old) n sized in
-    let rest : drop n l ≡ drop n old =
-    ap (drop n) (w .filled .filled) ∙ drop-at (numbers ts) (drop (3 * length ts) old) n sized ∙ ap (λ (k : ℕ). drop k old) (w .many) in
+pub wrote-more : {ts us : List Tri} {n : ℕ} {old l p : List ℕ} (m : ℕ) → Wrote ts n old l
+    → Put us (behind n l) p → length p ≡ length (behind n l) → m ≡ n + 3 * length us → Wrote (ts ++ us) m old (back n l p)
+wrote-more {ts} {us} {n} {old} {l} {p} m w f e q =
     let both : length (ts ++ us) ≡ length ts + length us = length-append ts us in
-    let all : n + 3 * length us ≡ 3 * length (ts ++ us) = omega (arith, w .many) in
     record {
       many = omega (arith, w .many);
       filled = record {
         filled =
-            back-is n l p h
-            ∙ ap₂ _++_ front (f .filled ∙ ap (λ (r : List ℕ). numbers us ++ drop (3 * length us) r) (behind-is n l ∙ rest))
-            ∙ sym (append-assoc (numbers ts) (numbers us) (drop (3 * length us) (drop n old)))
-            ∙ ap₂ _++_ (sym (numbers-append ts us)) (drop-drop (3 * length us) n old ∙ ap (λ (k : ℕ). drop k old) all);
+            subst (λ (r : List ℕ). Filled r old (back n l p)) (sym (numbers-append ts us))
+            (filled-more n (w .filled .filled) (numbers-length ts ∙ w .many) (f .filled));
       };
-      long = same-len-mid n (length l - n) l p e ∙ w .long;
+      long = back-long n l p e ∙ w .long;
     }
 
 -- ---- a vertex
@@ -117,14 +99,6 @@ vertex-inner e i h n = ap (λ (k : ℕ). e .first + k) (sym (mod-eq-of-lt (less 
 pub corners : {u v w x y z : ℕ} → u ≡ x → v ≡ y → w ≡ z → tri u v w ≡ tri x y z
 corners a b c = rw (a, b, c)
 
--- the byte that is no A is a B
-byte-a : (b : ℕ) → b ≡ 0 → stepOf b ≡ A
-byte-a b e = ap stepOf e
-
-byte-b : (b : ℕ) → (b ≡ 0 → ⊥) → stepOf b ≡ B
-byte-b zero n = absurd (n refl)
-byte-b (suc b) n = refl
-
 module _ {d e : Layer} {p : Pair} {b : ℕ} {out : List ℕ} (s : StepReady d e p b out) where
   pub ready-first : (p .i ≤ d .count) × (p .j ≤ e .count)
   ready-first = (omega (arith, s .inA), omega (arith, s .inB))
@@ -139,27 +113,27 @@ module _ {d e : Layer} {p : Pair} {b : ℕ} {out : List ℕ} (s : StepReady d e 
 
 -- by the step that the byte says
 at-step : {d e : Layer} {p r : Pair} {b : ℕ} {old new : List ℕ} (x : Step) → stepOf b ≡ x
-    → Filled (stepTri d e (p .i) (p .j) x ∷ []) old new → r .i ≡ p .i + stepsA (x ∷ []) → r .j ≡ p .j + stepsB (x ∷ [])
+    → Put (stepTri d e (p .i) (p .j) x ∷ []) old new → r .i ≡ p .i + stepsA (x ∷ []) → r .j ≡ p .j + stepsB (x ∷ [])
     → Stepped d e p b old new r
 at-step {d} {e} {p} {r} {b} {old} {new} x q t ei ej = record {
-  triangle = subst (λ (x : Step). Filled (stepTri d e (p .i) (p .j) x ∷ []) old new) (sym q) t;
+  triangle = subst (λ (x : Step). Put (stepTri d e (p .i) (p .j) x ∷ []) old new) (sym q) t;
   i = ei ∙ ap (λ (x : Step). p .i + stepsA (x ∷ [])) (sym q);
   j = ej ∙ ap (λ (x : Step). p .j + stepsB (x ∷ [])) (sym q);
 }
 
 module _ {d e : Layer} {p : Pair} {b u v w : ℕ} {old new : List ℕ} (eu : u ≡ ring d (p .i)) (ew : w ≡ ring e (p .j))
-    (f : Filled (tri u v w ∷ []) old new) where
+    (f : Put (tri u v w ∷ []) old new) where
   pub step-a : b ≡ 0 → v ≡ ring d (p .i + 1) → Stepped d e p b old new (record { i = p .i + 1; j = p .j })
   unfolding stepsA stepsB
   step-a z ev =
       let t : tri u v w ≡ stepTri d e (p .i) (p .j) A = corners eu (ev ∙ ap (ring d) (add-one (p .i))) ew in
-      at-step A (byte-a b z) (subst (λ (t : Tri). Filled (t ∷ []) old new) t f) (omega arith) (omega arith)
+      at-step A (byte-a b z) (subst (λ (t : Tri). Put (t ∷ []) old new) t f) (omega arith) (omega arith)
 
   pub step-b : (b ≡ 0 → ⊥) → v ≡ ring e (p .j + 1) → Stepped d e p b old new (record { i = p .i; j = p .j + 1 })
   unfolding stepsA stepsB
   step-b z ev =
       let t : tri u v w ≡ stepTri d e (p .i) (p .j) B = corners eu (ev ∙ ap (ring e) (add-one (p .j))) ew in
-      at-step B (byte-b b z) (subst (λ (t : Tri). Filled (t ∷ []) old new) t f) (omega arith) (omega arith)
+      at-step B (byte-b b z) (subst (λ (t : Tri). Put (t ∷ []) old new) t f) (omega arith) (omega arith)
 
 -- ---- a band
 
@@ -233,7 +207,7 @@ module _ {d e : Layer} {l : List ℕ} {k : ℕ} {p : Pair} {old out : List ℕ} 
         ∙ band-step (p .i) (p .j) d e (stepOf (getD l k 0)) rest
         ∙ ap₂ (λ (i j : ℕ). one ∷ bandFrom (ring d) (ring e) i j rest) (sym (t .i)) (sym (t .j)))
         ∙ sym (append-assoc (s .done) (one ∷ []) (bandFrom (ring d) (ring e) (r .i) (r .j) rest));
-    wrote = wrote-more (3 * suc k) (s .wrote) (omega (arith, band-room)) (t .triangle) g (omega arith);
+    wrote = wrote-more (3 * suc k) (s .wrote) (t .triangle) g (omega arith);
     ends = record {
       endA = ap (λ (i : ℕ). i + stepsA rest) (t .i) ∙ ends-on .endA;
       endB = ap (λ (j : ℕ). j + stepsB rest) (t .j) ∙ ends-on .endB;
@@ -241,10 +215,10 @@ module _ {d e : Layer} {l : List ℕ} {k : ℕ} {p : Pair} {old out : List ℕ} 
   })
 
 pub band-done : {d e : Layer} {l : List ℕ} {k : ℕ} {p : Pair} {old out : List ℕ} → BandSo d e l k p old out → k ≡ length l
-    → Filled (bandFrom (ring d) (ring e) 0 0 (stepsOf l)) old out
+    → Put (bandFrom (ring d) (ring e) 0 0 (stepsOf l)) old out
 unfolding bandFrom
 band-done {d} {e} {l} {k} {p} {old} {out} s h =
-    subst (λ (t : List Tri). Filled t old out)
+    subst (λ (t : List Tri). Put t old out)
     (sym (s .parts
     ∙ ap (λ (m : List ℕ). s .done ++ bandFrom (ring d) (ring e) (p .i) (p .j) (stepsOf m)) (ap (λ (n : ℕ). drop n l) h ∙ drop-length l)
     ∙ append-nil (s .done)))
@@ -279,9 +253,9 @@ module _ {from : ℕ → ℕ → List Tri} {one : ℕ → Tri} (f : Fan from one
   pub fan-room : suc (suc k) < m → 3 * (m - 2) ≤ length old → 3 * k + 3 ≤ length out
   fan-room h r = omega (arith, s .wrote .long)
 
-  pub fan-more : {part : List ℕ} → suc (suc k) < m → 3 * k ≤ length out → Filled (one (suc k) ∷ []) (behind (3 * k) out) part
+  pub fan-more : {part : List ℕ} → suc (suc k) < m → Put (one (suc k) ∷ []) (behind (3 * k) out) part
       → length part ≡ length (behind (3 * k) out) → FanSo from m (k + 1) old (back (3 * k) out part)
-  fan-more h r t g =
+  fan-more h t g =
       let n : m - 2 - k ≡ suc (m - 2 - suc k) = omega arith in
       rw (add-one k) (record {
         here = omega arith;
@@ -289,25 +263,25 @@ module _ {from : ℕ → ℕ → List Tri} {one : ℕ → Tri} (f : Fan from one
         parts =
             s .parts ∙ ap (λ (t : List Tri). s .done ++ t) (ap (from (suc k)) n ∙ f .more (suc k) (m - 2 - suc k))
             ∙ sym (append-assoc (s .done) (one (suc k) ∷ []) (from (suc (suc k)) (m - 2 - suc k)));
-        wrote = wrote-more (3 * suc k) (s .wrote) r t g (omega arith);
+        wrote = wrote-more (3 * suc k) (s .wrote) t g (omega arith);
       })
 
-  pub fan-done : m ≤ suc (suc k) → Filled (from 1 (m - 2)) old out
+  pub fan-done : m ≤ suc (suc k) → Put (from 1 (m - 2)) old out
   fan-done h =
       let n : m - 2 - k ≡ 0 = omega (arith, s .here) in
-      subst (λ (t : List Tri). Filled t old out)
+      subst (λ (t : List Tri). Put t old out)
       (sym (s .parts ∙ ap (λ (t : List Tri). s .done ++ t) (ap (from (suc k)) n ∙ f .none (suc k)) ∙ append-nil (s .done)))
       (s .wrote .filled)
 
 -- one triangle of a cap, by its corners
-module _ (e : Layer) (k : ℕ) {u v w : ℕ} {old new : List ℕ} (f : Filled (tri u v w ∷ []) old new) (eu : u ≡ ring e 0) where
+module _ (e : Layer) (k : ℕ) {u v w : ℕ} {old new : List ℕ} (f : Put (tri u v w ∷ []) old new) (eu : u ≡ ring e 0) where
   two : ring e (k + 2) ≡ ring e (suc (suc k))
   two = let n : k + 2 ≡ suc (suc k) = omega arith in ap (ring e) n
 
-  pub floor-placed : v ≡ ring e (k + 2) → w ≡ ring e (k + 1) → Filled (floorTri e (suc k) ∷ []) old new
+  pub floor-placed : v ≡ ring e (k + 2) → w ≡ ring e (k + 1) → Put (floorTri e (suc k) ∷ []) old new
   floor-placed ev ew =
-      subst (λ (t : Tri). Filled (t ∷ []) old new) (corners eu (ev ∙ two) (ew ∙ ap (ring e) (add-one k))) f
+      subst (λ (t : Tri). Put (t ∷ []) old new) (corners eu (ev ∙ two) (ew ∙ ap (ring e) (add-one k))) f
 
-  pub roof-placed : v ≡ ring e (k + 1) → w ≡ ring e (k + 2) → Filled (roofTri e (suc k) ∷ []) old new
+  pub roof-placed : v ≡ ring e (k + 1) → w ≡ ring e (k + 2) → Put (roofTri e (suc k) ∷ []) old new
   roof-placed ev ew =
-      subst (λ (t : Tri). Filled (t ∷ []) old new) (corners eu (ev ∙ ap (ring e) (add-one k)) (ew ∙ two)) f
+      subst (λ (t : Tri). Put (t ∷ []) old new) (corners eu (ev ∙ ap (ring e) (add-one k)) (ew ∙ two)) f

@@ -11,7 +11,7 @@ use Rattle.strip.specs.Band.{bandSix}
 use Rattle.stack.specs.declared.Layer.{Layer}
 use Rattle.stack.specs.Entries.{entry, traceOf, stop}
 use Rattle.stack.specs.Strips.{bandPart}
-use Rattle.mesh.specs.Closed.{stepsOf}
+use Rattle.strip.specs.Bytes.{stepsOf}
 
 -- the rule for the traces a and b, h apart, and the bytes l of a strip between them
 unfoldable pub rule : ℤ → List ℤ → List ℤ → List ℕ → ℤ

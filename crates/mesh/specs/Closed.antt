@@ -1,8 +1,8 @@
 -- 01, "The closed triangle list", of a stack with its strips.
-use mathlib.Core.List.{List, [], _∷_, _++_, map}
+use mathlib.Core.List.{List, [], _∷_, _++_}
 use Prim.Native.Nat.{ℕ, zero, suc, _+_, _-_, _%_}
 use lib.ListN.{length}
-use Rattle.ways.specs.Strip.{Step, A, B}
+use Rattle.strip.specs.Bytes.{stepsOf}
 use Rattle.stack.specs.declared.Layer.{Layer}
 use Rattle.stack.specs.Entries.{entry, steps}
 use Rattle.stack.specs.Strips.{bandPart}
@@ -11,14 +11,6 @@ use Rattle.mesh.specs.Triangles.{Tri, bandFrom, roofFrom, floorFrom}
 -- "Vertices are numbered through the stack from 0": point i of a layer's trace, and "Indices run round"
 unfoldable pub ring : Layer → ℕ → ℕ
 ring e i = e .first + i % e .count
-
--- "Step A (byte 0) .. Step B (byte 1)"
-abbrev pub stepOf : ℕ → Step
-stepOf zero = A
-stepOf (suc n) = B
-
-abbrev pub stepsOf : List ℕ → List Step
-stepsOf l = map stepOf l
 
 -- the triangles of band k, between layer k and the one above it, "in step order"
 unfoldable pub bandOf : List Layer → List ℕ → ℕ → List Tri

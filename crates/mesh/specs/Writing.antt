@@ -1,8 +1,9 @@
 -- Inner: what the writers of the closed list ask and do. No public contract cites this file.
 use mathlib.Core.Path.{_≡_}
-use mathlib.Core.List.{List, [], _∷_, _++_}
-use Prim.Native.Nat.{ℕ, suc, _+_, _*_, _≤_, _<_}
-use lib.ListN.{length, drop}
+use mathlib.Core.List.{List, [], _∷_}
+use Prim.Native.Nat.{ℕ, suc, _+_, _≤_, _<_}
+use lib.ListN.{length}
+use Rattle.whole.specs.Filled.{Filled}
 use Rattle.ways.specs.Strip.{Step, A, B, stepsA, stepsB}
 use Rattle.stack.specs.declared.Layer.{Layer}
 use Rattle.stack.specs.declared.Stack.{Stack}
@@ -11,11 +12,12 @@ use Rattle.stack.specs.Strips.{StripsRight}
 use Rattle.stack.specs.Laid.{laid}
 use Rattle.mesh.specs.declared.writers.Pair.{Pair}
 use Rattle.mesh.specs.Triangles.{Tri}
-use Rattle.mesh.specs.Closed.{ring, stepOf, numbers}
+use Rattle.strip.specs.Bytes.{stepOf}
+use Rattle.mesh.specs.Closed.{ring, numbers}
 
 -- what every writer does: its triangles at the front, and the rest as it was
-pub record Filled (ts : List Tri) (old new : List ℕ) : Type 0 where
-  pub filled : new ≡ numbers ts ++ drop (3 * length ts) old
+pub record Put (ts : List Tri) (old new : List ℕ) : Type 0 where
+  pub filled : Filled (numbers ts) old new
 
 abbrev pub tri : ℕ → ℕ → ℕ → Tri
 tri u v w = record { u = u; v = v; w = w }
@@ -55,6 +57,6 @@ pub record StepReady (d e : Layer) (p : Pair) (byte : ℕ) (out : List ℕ) : Ty
 
 -- and does, going on to the pair r
 pub record Stepped (d e : Layer) (p : Pair) (byte : ℕ) (old new : List ℕ) (r : Pair) : Type 0 where
-  pub triangle : Filled (stepTri d e (p .i) (p .j) (stepOf byte) ∷ []) old new
+  pub triangle : Put (stepTri d e (p .i) (p .j) (stepOf byte) ∷ []) old new
   pub i : r .i ≡ p .i + stepsA (stepOf byte ∷ [])
   pub j : r .j ≡ p .j + stepsB (stepOf byte ∷ [])

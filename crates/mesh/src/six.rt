@@ -9,7 +9,7 @@ ghost use Rattle.trace.specs.Faults.{Accepted};
 ghost use Rattle.strip.specs.Worth.{W};
 ghost use Rattle.stack.specs.Entries.{bandStart};
 ghost use Rattle.stack.specs.Laid.{laid};
-ghost use Rattle.mesh.specs.Closed.{stepsOf};
+ghost use Rattle.strip.specs.Bytes.{stepsOf};
 ghost use Rattle.mesh.specs.Bands.{rule, bandRule, sixOf};
 ghost use Rattle.mesh.specs.Working.{Joined, Fitted};
 use crate::layers::band_end;

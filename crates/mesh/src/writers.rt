@@ -8,8 +8,9 @@ ghost use Rattle.ways.specs.Strip.{Strip};
 ghost use Rattle.stack.specs.Entries.{bandStart, steps};
 ghost use Rattle.stack.specs.Laid.{laid};
 ghost use Rattle.mesh.specs.Triangles.{bandFrom};
-ghost use Rattle.mesh.specs.Closed.{ring, stepsOf, floorOf, roofOf, bandOf, bandsTo, closed, triangles};
-ghost use Rattle.mesh.specs.Writing.{Filled, tri, floorTri, roofTri, Numbered, StepReady, Stepped, Drawn};
+ghost use Rattle.strip.specs.Bytes.{stepsOf};
+ghost use Rattle.mesh.specs.Closed.{ring, floorOf, roofOf, bandOf, bandsTo, closed, triangles};
+ghost use Rattle.mesh.specs.Writing.{Put, tri, floorTri, roofTri, Numbered, StepReady, Stepped, Drawn};
 use stack::Layer;
 use stack::Stack;
 use stack::layer_at;
@@ -34,7 +35,7 @@ fn vertex(layer: Layer, i: usize) -> u32
 // One triangle.
 fn put(out: &mut [u32], u: u32, v: u32, w: u32)
     requires { ⌜ 3 ≤ length (now out) ⌝ }
-    ensures { λ _. ⌜ Filled (tri u v w ∷ []) (now (out .entry)) (now (out .exit)) ⌝ }
+    ensures { λ _. ⌜ Put (tri u v w ∷ []) (now (out .entry)) (now (out .exit)) ⌝ }
 {
     out[0] = u;
     out[1] = v;
@@ -64,7 +65,7 @@ fn put_step(out: &mut [u32], lower: Layer, upper: Layer, pair: Pair, byte: u8) -
 fn put_band(out: &mut [u32], lower: Layer, upper: Layer, part: &[u8])
     requires { ⌜ Numbered lower × Numbered upper × Strip (lower .count) (upper .count) (stepsOf (now part))
         × (3 * length (now part) ≤ length (now out)) ⌝ }
-    ensures { λ _. ⌜ Filled (bandFrom (ring lower) (ring upper) 0 0 (stepsOf (now (part .entry)))) (now (out .entry)) (now (out .exit)) ⌝ }
+    ensures { λ _. ⌜ Put (bandFrom (ring lower) (ring upper) 0 0 (stepsOf (now (part .entry)))) (now (out .entry)) (now (out .exit)) ⌝ }
 {
     let mut pair = Pair { i: 0, j: 0 };
     let mut k = 0;
@@ -78,7 +79,7 @@ fn put_band(out: &mut [u32], lower: Layer, upper: Layer, part: &[u8])
 // Triangle `k` of the bottom cap: seen from below, so that it runs the other way round.
 fn floor_triangle(out: &mut [u32], layer: Layer, k: usize)
     requires { ⌜ Numbered layer × (suc (suc k) ≤ layer .count) × (3 ≤ length (now out)) ⌝ }
-    ensures { λ _. ⌜ Filled (floorTri layer (suc k) ∷ []) (now (out .entry)) (now (out .exit)) ⌝ }
+    ensures { λ _. ⌜ Put (floorTri layer (suc k) ∷ []) (now (out .entry)) (now (out .exit)) ⌝ }
 {
     let first = vertex(layer, 0);
     let near = vertex(layer, k + 1);
@@ -89,7 +90,7 @@ fn floor_triangle(out: &mut [u32], layer: Layer, k: usize)
 // Triangle `k` of the top cap.
 fn roof_triangle(out: &mut [u32], layer: Layer, k: usize)
     requires { ⌜ Numbered layer × (suc (suc k) ≤ layer .count) × (3 ≤ length (now out)) ⌝ }
-    ensures { λ _. ⌜ Filled (roofTri layer (suc k) ∷ []) (now (out .entry)) (now (out .exit)) ⌝ }
+    ensures { λ _. ⌜ Put (roofTri layer (suc k) ∷ []) (now (out .entry)) (now (out .exit)) ⌝ }
 {
     let first = vertex(layer, 0);
     let near = vertex(layer, k + 1);
@@ -100,7 +101,7 @@ fn roof_triangle(out: &mut [u32], layer: Layer, k: usize)
 // The bottom cap of a layer.
 fn put_floor(out: &mut [u32], layer: Layer)
     requires { ⌜ Numbered layer × (3 * (layer .count - 2) ≤ length (now out)) ⌝ }
-    ensures { λ _. ⌜ Filled (floorOf layer) (now (out .entry)) (now (out .exit)) ⌝ }
+    ensures { λ _. ⌜ Put (floorOf layer) (now (out .entry)) (now (out .exit)) ⌝ }
 {
     let count = layer.count;
     let mut k = 0;
@@ -114,7 +115,7 @@ fn put_floor(out: &mut [u32], layer: Layer)
 // The top cap of a layer.
 fn put_roof(out: &mut [u32], layer: Layer)
     requires { ⌜ Numbered layer × (3 * (layer .count - 2) ≤ length (now out)) ⌝ }
-    ensures { λ _. ⌜ Filled (roofOf layer) (now (out .entry)) (now (out .exit)) ⌝ }
+    ensures { λ _. ⌜ Put (roofOf layer) (now (out .entry)) (now (out .exit)) ⌝ }
 {
     let count = layer.count;
     let mut k = 0;
@@ -130,7 +131,7 @@ fn put_band_of(out: &mut [u32], stack: Stack, strips: &[u8], k: usize, at: usize
     requires { ⌜ Drawn stack (now strips) × (suc k < stack .layers) × (at ≡ bandStart (laid stack) k)
         × (3 * bandStart (laid stack) (suc k) ≤ 3 * at + length (now out)) ⌝ }
     ensures { λ r. ⌜ (r ≡ bandStart (laid stack) (suc k))
-        × Filled (bandOf (laid stack) (now (strips .entry)) k) (now (out .entry)) (now (out .exit)) ⌝ }
+        × Put (bandOf (laid stack) (now (strips .entry)) k) (now (out .entry)) (now (out .exit)) ⌝ }
 {
     let lower = layer_at(stack, k);
     let upper = layer_at(stack, k + 1);
@@ -142,7 +143,7 @@ fn put_band_of(out: &mut [u32], stack: Stack, strips: &[u8], k: usize, at: usize
 // All bands, from the bottom up: each is lent the part of the list from where the one below it ends.
 fn put_bands(out: &mut [u32], stack: Stack, strips: &[u8])
     requires { ⌜ Drawn stack (now strips) × (3 * steps (laid stack) ≤ length (now out)) ⌝ }
-    ensures { λ _. ⌜ Filled (bandsTo (laid stack) (now (strips .entry)) (stack .layers - 1)) (now (out .entry)) (now (out .exit)) ⌝ }
+    ensures { λ _. ⌜ Put (bandsTo (laid stack) (now (strips .entry)) (stack .layers - 1)) (now (out .entry)) (now (out .exit)) ⌝ }
 {
     let layers = stack.layers;
     let mut at = 0;
@@ -157,7 +158,7 @@ fn put_bands(out: &mut [u32], stack: Stack, strips: &[u8])
 // The whole closed list: the bands, then the bottom cap, then the top cap.
 pub(crate) fn put_all(out: &mut [u32], stack: Stack, strips: &[u8], taken: usize)
     requires { ⌜ Drawn stack (now strips) × (taken ≡ steps (laid stack)) × (3 * triangles (laid stack) ≤ length (now out)) ⌝ }
-    ensures { λ _. ⌜ Filled (closed (laid stack) (now (strips .entry))) (now (out .entry)) (now (out .exit)) ⌝ }
+    ensures { λ _. ⌜ Put (closed (laid stack) (now (strips .entry))) (now (out .entry)) (now (out .exit)) ⌝ }
 {
     let bottom = layer_at(stack, 0);
     let top = layer_at(stack, stack.layers - 1);

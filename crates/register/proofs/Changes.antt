@@ -1,9 +1,9 @@
 -- What the checks find, beyond 01: an accepted file in which one byte is changed, or two unequal bytes of one block's contents are
 -- exchanged, or two blocks are, is refused with CHECK at the lowest block touched, and nothing is shown. By the theorems of `blocks`:
 -- 65,521 is prime, and the number of a block counts. Assumes nothing.
-use mathlib.Core.Path.{_≡_, refl, sym, ap, _∙_, subst}
+use mathlib.Core.Path.{_≡_, refl, ap, subst}
 use mathlib.Core.List.{List}
-use Prim.Native.Nat.{ℕ, _*_, _/_, _%_, _≤_, _<_, min}
+use Prim.Native.Nat.{ℕ, _*_, _/_, _%_, _<_, min}
 use native.Mathlib.Omega.{arith}
 use lib.ListN.{length, getD, set}
 use Rattle.fault.specs.declared.Refusal.{Refusal}

@@ -1,79 +1,20 @@
--- Writing at the front of a lent slice: element by element, or part by part, where the part behind what is written is lent on.
--- Assumes nothing.
+-- Writing the coordinates at the front of a lent slice, layer by layer, where the part behind what is written is lent on; and a field of
+-- each layer. Assumes nothing.
 use mathlib.Core.Path.{_≡_, refl, sym, ap, ap₂, _∙_}
-use mathlib.Core.List.{List, [], _∷_, _++_, append-assoc, append-nil, map}
+use mathlib.Core.List.{List, [], _++_, append-assoc, append-nil, map}
 use Prim.Native.Nat.{ℕ, zero, suc, _+_, _*_, _-_, _≤_, _<_}
 use native.Mathlib.Numerals.{add-one}
 use native.Mathlib.Omega.{arith}
 use lib.IntN.{ℤ}
-use lib.ListN.{length, getD, take, drop, set, length-append, length-set, List·getD-map}
-use lib.Seq.{take-all, take-at, drop-at, drop-drop, drop-cons, set-at, append-snoc, take-suc, length-take-le}
-use borrow.Rule.Slice.PartMut.{putMid, same-len-mid}
-use Rattle.whole.proofs.Parts.{part-lent, part-back}
+use lib.ListN.{length, getD, drop, length-append, List·getD-map}
+use lib.Seq.{drop-drop}
+use Rattle.whole.specs.Filled.{Filled}
+use Rattle.whole.proofs.Filling.{behind, back, filled-more, back-long}
 use Rattle.register.specs.Decoding.{numbers, countHere, past, coordsFrom, placeOf}
-use Rattle.register.specs.Fronts.{Front}
 use Rattle.register.proofs.DecodeLaws.{numbers-long}
 use Rattle.register.proofs.GatherLaws.{place-next}
 use Rattle.stack.specs.Entries.{noLayer, entry}
 use Rattle.stack.specs.declared.Layer.{Layer}
-
--- ---- element by element
-
--- k elements of l are written
-pub record FrontSo {A : Type 0} (l : List A) (k : ℕ) (old new : List A) : Type 0 where
-  pub inside : k ≤ length l
-  pub room : length l ≤ length old
-  pub long : length new ≡ length old
-  pub written : new ≡ take k l ++ drop k old
-
-pub front-begun : {A : Type 0} (l old : List A) → length l ≤ length old → FrontSo l 0 old old
-front-begun l old r = record { inside = omega arith; room = r; long = refl; written = refl }
-
-module _ {A : Type 0} {l old new : List A} {k : ℕ} (s : FrontSo l k old new) where
-  pub front-more : (d x : A) → k < length l → x ≡ getD l k d → FrontSo l (k + 1) old (set new k x)
-  front-more d x h e = rw (add-one k) (record {
-    inside = omega arith;
-    room = s .room;
-    long = length-set new k x ∙ s .long;
-    written =
-        ap (λ (m : List A). set m k x)
-        (s .written ∙ ap (λ (m : List A). take k l ++ m) (drop-cons old k d (omega (arith, s .room))))
-        ∙ set-at (take k l) (getD old k d) (drop (suc k) old) x k (length-take-le k l (omega arith))
-        ∙ sym (append-snoc (take k l) x (drop (suc k) old))
-        ∙ ap (λ (m : List A). m ++ drop (suc k) old)
-        (ap (λ (y : A). take k l ++ (y ∷ [])) e ∙ sym (take-suc l k d h));
-  })
-
-  pub front-done : length l ≤ k → Front l old new
-  front-done h =
-      let e : k ≡ length l = omega (arith, s .inside) in
-      record { filled = s .written ∙ ap₂ _++_ (take-all k l h) (ap (λ (n : ℕ). drop n old) e) }
-
--- ---- part by part
-
--- the part from n on, lent, and the whole with p in its place
-abbrev pub behind : {A : Type 0} → ℕ → List A → List A
-behind n l = take (length l - n) (drop n l)
-
-abbrev pub back : {A : Type 0} → ℕ → List A → List A → List A
-back n l p = putMid n (length l - n) l p
-
-pub front-part : {A : Type 0} {us vs old l p : List A} (n : ℕ) → Front us old l → length us ≡ n → Front vs (behind n l) p
-    → Front (us ++ vs) old (back n l p)
-front-part {A} {us} {vs} {old} {l} {p} n f e g =
-    let front : take n l ≡ us = ap (take n) (f .filled) ∙ take-at us (drop (length us) old) n e in
-    let rest : drop n l ≡ drop n old = ap (drop n) (f .filled) ∙ drop-at us (drop (length us) old) n e ∙ ap (λ (k : ℕ). drop k old) e in
-    let all : n + length vs ≡ length (us ++ vs) = simp length-append (omega arith) in
-    record {
-      filled =
-          part-back n l p
-          ∙ ap₂ _++_ front (g .filled ∙ ap (λ (r : List A). vs ++ drop (length vs) r) (part-lent n l ∙ rest))
-          ∙ sym (append-assoc us vs (drop (length vs) (drop n old)))
-          ∙ ap (λ (r : List A). us ++ vs ++ r) (drop-drop (length vs) n old ∙ ap (λ (k : ℕ). drop k old) all);
-    }
-
-pub back-long : {A : Type 0} (n : ℕ) (l p : List A) → length p ≡ length (behind n l) → length (back n l p) ≡ length l
-back-long n l p e = same-len-mid n (length l - n) l p e
 
 -- ---- the coordinates, layer by layer
 
@@ -84,7 +25,7 @@ pub record CoordsSo (contents : List ℕ) (n k first : ℕ) (old new : List ℤ)
   pub done : List ℤ
   pub many : length done ≡ 2 * first
   pub rest : coordsFrom n (drop 2 contents) ≡ done ++ coordsFrom (n - k) (drop (placeOf k first) contents)
-  pub written : Front done old new
+  pub written : Filled done old new
   pub room : length (coordsFrom n (drop 2 contents)) ≤ length old
   pub long : length new ≡ length old
 
@@ -140,7 +81,7 @@ module _ {contents : List ℕ} {n k first : ℕ} {old new : List ℤ} (s : Coord
       omega (arith, ap length (next-rest h is), length-append (s .done ++ t) rest, length-append (s .done) t, numbers-long (2 * m) (drop (placeOf k first + 6) contents), s .room, s .long, s .many)
 
   pub coords-more : {m : ℕ} {p : List ℤ} → k < n → m ≡ countHere (drop (placeOf k first) contents) → m < 65536
-      → Front (numbers (2 * m) (drop (placeOf k first + 6) contents)) (behind (2 * first) new) p → length p ≡ length (behind (2 * first) new)
+      → Filled (numbers (2 * m) (drop (placeOf k first + 6) contents)) (behind (2 * first) new) p → length p ≡ length (behind (2 * first) new)
       → CoordsSo contents n (k + 1) (first + m) old (back (2 * first) new p)
   coords-more {m} {p} h is small w e =
       let t : List ℤ = numbers (2 * m) (drop (placeOf k first + 6) contents) in
@@ -150,12 +91,12 @@ module _ {contents : List ℕ} {n k first : ℕ} {old new : List ℤ} (s : Coord
         done = s .done ++ t;
         many = length-append (s .done) t ∙ omega (arith, s .many, numbers-long (2 * m) (drop (placeOf k first + 6) contents));
         rest = next-rest h is;
-        written = front-part (2 * first) (s .written) (s .many) w;
+        written = filled-more (2 * first) (s .written) (s .many) w;
         room = s .room;
         long = back-long (2 * first) new p e ∙ s .long;
       })
 
-  pub coords-done : n ≤ k → Front (coordsFrom n (drop 2 contents)) old new
+  pub coords-done : n ≤ k → Filled (coordsFrom n (drop 2 contents)) old new
   unfolding coordsFrom
   coords-done h =
       let none : n - k ≡ 0 = omega arith in

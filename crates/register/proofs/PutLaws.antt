@@ -8,13 +8,13 @@ use native.Mathlib.Numerals.{add-one}
 use native.Mathlib.Omega.{arith}
 use lib.Dec.{T}
 use lib.IntN.{ℤ, pos, negsuc, natAbs, _+ℤ_}
-use lib.ListN.{length, getD, take, drop, set, length-append, length-drop, take-append-drop}
+use lib.ListN.{length, getD, take, drop, set, length-append, take-append-drop}
 use lib.Seq.{take-suc, take-all, length-take-le}
 use lib.Signed.{ltZ, nonNeg}
 use mir.Syntax.{w32, w64}
 use mir.Val.{Fits, SFits, toZ, ofZ}
 use mir.ValLaws.{toZ-ofZ}
-use borrow.Author.Tests.{ltb-true, ltb-false}
+use borrow.Author.Tests.{ltb-true}
 use Rattle.whole.proofs.Linear.{zsum, znat}
 use Rattle.whole.proofs.TestLaws.{true≢false}
 use Rattle.whole.proofs.Machine.{held, from32}

@@ -36,7 +36,7 @@ use Rattle.register.specs.declared.judging.Extent.{Extent}
 use Rattle.register.specs.Stored.{Stored, layersIn, LayersIn, ContentFault}
 use Rattle.register.specs.Decoding.{twoOf, layersFrom, coordsFrom, layersOf, coordsOf, stripsOf, StoredHere}
 use Rattle.register.specs.Reading.{Lent, lent, EnoughFor, filled, ReadAnswer, blocks, layers, content, stack, room, strips, whole}
-use Rattle.register.specs.Fronts.{Front}
+use Rattle.whole.specs.Filled.{Filled}
 use Rattle.register.specs.Answering.{contentsEnd, Layered, Ready, ReadFrom, blocksRefusal}
 use Rattle.stack.specs.Gathered.{Gathers}
 use Rattle.register.proofs.StoredLaws.{layers-in-two, stored-ended}
@@ -146,16 +146,16 @@ module _ {k : List ℕ} {st : Stack} {e : Extent} (d : Ready k st e) where
   }
 
   -- the slices filled, one after another
-  pub all-filled : {p p′ c c′ : List ℤ} {f f′ n n′ l l′ : List ℕ} → Front (map (λ (e : Layer). e .plane) (laid st)) p p′
-      → Front (map (λ (e : Layer). e .first) (laid st)) f f′ → Front (map (λ (e : Layer). e .count) (laid st)) n n′
-      → Front (coordsFrom (st .layers) (drop 2 k)) c c′ → Front (take (e .end - e .from) (drop (e .from) k)) l l′
+  pub all-filled : {p p′ c c′ : List ℤ} {f f′ n n′ l l′ : List ℕ} → Filled (map (λ (e : Layer). e .plane) (laid st)) p p′
+      → Filled (map (λ (e : Layer). e .first) (laid st)) f f′ → Filled (map (λ (e : Layer). e .count) (laid st)) n n′
+      → Filled (coordsFrom (st .layers) (drop 2 k)) c c′ → Filled (take (e .end - e .from) (drop (e .from) k)) l l′
       → lent p′ f′ n′ c′ l′ ≡ filled (layersOf k) (coordsOf k) (stripsOf k) (lent p f n c l)
   all-filled {p} {p′} {c} {c′} {f} {f′} {n} {n′} {l} {l′} wp wf wn wc wl =
       same (mapped (λ (e : Layer). e .plane) wp) (mapped (λ (e : Layer). e .first) wf) (mapped (λ (e : Layer). e .count) wn)
       (subst (λ (x : List ℤ). c′ ≡ x ++ drop (length x) c) coords-by (wc .filled))
       (subst (λ (x : List ℕ). l′ ≡ x ++ drop (length x) l) strips-here (wl .filled))
     where
-      mapped : {A : Type 0} (g : Layer → A) {a b : List A} → Front (map g (laid st)) a b
+      mapped : {A : Type 0} (g : Layer → A) {a b : List A} → Filled (map g (laid st)) a b
           → b ≡ map g (layersOf k) ++ drop (length (layersOf k)) a
       mapped {A} g {a} {b} w =
           w .filled ∙ ap (λ (n : ℕ). map g (laid st) ++ drop n a) (length-map (laid st) g)
@@ -212,7 +212,7 @@ module _ {k : List ℕ} {st : Stack} {e : Extent} (d : Ready k st e) where
   points-half = omega (arith, d .reaches .points)
 
   -- what is judged are the coordinates of the contents
-  pub judged-coords : {old new : List ℤ} → Front (coordsFrom (st .layers) (drop 2 k)) old new → take (2 * e .points) new ≡ coordsOf k
+  pub judged-coords : {old new : List ℤ} → Filled (coordsFrom (st .layers) (drop 2 k)) old new → take (2 * e .points) new ≡ coordsOf k
   judged-coords {old} {new} w =
       let long : length (coordsOf k) ≡ 2 * e .points = omega (arith, d .reaches .points) in
       ap (take (2 * e .points)) (subst (λ (x : List ℤ). new ≡ x ++ drop (length x) old) (coords-by d) (w .filled))

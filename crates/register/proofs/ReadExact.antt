@@ -62,17 +62,29 @@ Outcome = Lent × ReadBack
 abbrev Refused : Lent → Refusal → Outcome
 Refused x r = (x, read-is.Refused r)
 
-abbrev Staged : List ℕ → Lent → Outcome → Type 0
-Staged k x o =
-    Stage ((LayersIn k → ⊥) × (o ≡ Refused x (at Layers 0))) (LayersIn k)
-    (Stage (ContentFault k × (o ≡ Refused x (at Content 0))) (StoredHere k)
-    (Stage ((q : Refusal) × StackJudged (layersOf k) (coordsOf k) (stack-is.Refused q) × (o ≡ Refused x q)) (AcceptedStack (layersOf k) (coordsOf k))
-    (Stage ((EnoughFor (layersOf k) (coordsOf k) (stripsOf k) x → ⊥) × (o ≡ Refused x (at Room 0))) (EnoughFor (layersOf k) (coordsOf k) (stripsOf k) x)
-    (Stage ((q : Refusal) × StripsJudged (layersOf k) (stripsOf k) (strips-are.Refused q) × (o ≡ Refused x q)) (StripsRight (layersOf k) (stripsOf k))
+-- the last stages first: all is right; the strips; the room; the stack
+abbrev AtStrips : List ℕ → Lent → Outcome → Type 0
+AtStrips k x o =
+    Stage ((q : Refusal) × StripsJudged (layersOf k) (stripsOf k) (strips-are.Refused q) × (o ≡ Refused x q)) (StripsRight (layersOf k) (stripsOf k))
     (Unit {0} × (o ≡ (
       filled (layersOf k) (coordsOf k) (stripsOf k) x,
       read-is.Whole (length (layersOf k)) (length (coordsOf k) / 2) (length (stripsOf k)),
-    )))))))
+    )))
+
+abbrev AtRoom : List ℕ → Lent → Outcome → Type 0
+AtRoom k x o =
+    Stage ((EnoughFor (layersOf k) (coordsOf k) (stripsOf k) x → ⊥) × (o ≡ Refused x (at Room 0))) (EnoughFor (layersOf k) (coordsOf k) (stripsOf k) x)
+    (AtStrips k x o)
+
+abbrev AtStack : List ℕ → Lent → Outcome → Type 0
+AtStack k x o =
+    Stage ((q : Refusal) × StackJudged (layersOf k) (coordsOf k) (stack-is.Refused q) × (o ≡ Refused x q)) (AcceptedStack (layersOf k) (coordsOf k))
+    (AtRoom k x o)
+
+abbrev Staged : List ℕ → Lent → Outcome → Type 0
+Staged k x o =
+    Stage ((LayersIn k → ⊥) × (o ≡ Refused x (at Layers 0))) (LayersIn k)
+    (Stage (ContentFault k × (o ≡ Refused x (at Content 0))) (StoredHere k) (AtStack k x o))
 
 strips-once : {es : List Layer} {l : List ℕ} {q r : Refusal} → StripsJudged es l (strips-are.Refused q) → StripsJudged es l (strips-are.Refused r)
     → q ≡ r
@@ -111,91 +123,43 @@ abbrev Viewed : List ℕ → Lent → Outcome → Type 0
 Viewed f x o =
     Stage ((q : Refusal) × BlocksJudged f (blocks-are.Refused q) × (o ≡ Refused x q)) ((n : ℕ) × Sound f n) (Held f x o)
 
+-- ---- each case of the answer, as far as its stages go
+
+held-in : {f : List ℕ} {x : Lent} {o : Outcome} {n : ℕ} → Sound f n → Staged (contentsOf n f) x o → Viewed f x o
+held-in {n = n} s t = inr ((n, s), record { number = n; sound = s; staged = t })
+
+module _ {f : List ℕ} {x : Lent} {o : Outcome} {n : ℕ} {es : List Layer} {c : List ℤ} {l : List ℕ} (s : Sound f n)
+    (t : Stored (contentsOf n f) es c l) where
+  stored-in : LayersIn (contentsOf n f) → AtStack (contentsOf n f) x o → Viewed f x o
+  stored-in h r = held-in s (inr (h, inr (held-here (some-layers h) t, r)))
+
+  module _ (a : AcceptedStack es c) where
+    accepted-in : AtRoom (contentsOf n f) x o → Viewed f x o
+    accepted-in r =
+        let h : LayersIn (contentsOf n f) = layers-held t (a .layers) in
+        stored-in h (inr (here (λ es c _. AcceptedStack es c) (some-layers h) t a, r))
+
+    enough-in : EnoughFor es c l x → AtStrips (contentsOf n f) x o → Viewed f x o
+    enough-in e r = accepted-in (inr (here (λ es c l. EnoughFor es c l x) (some-layers (layers-held t (a .layers))) t e, r))
+
 viewed : {f : List ℕ} {x x′ : Lent} {r : ReadBack} → ReadAnswer f x x′ r → Viewed f x (x′, r)
 viewed (answer.blocks j) = inl (_, j, refl)
-viewed (answer.layers {n = n} s w) = inr ((n, s), record { number = n; sound = s; staged = inl (w, refl) })
-viewed (answer.content {n = n} s l c) = inr ((n, s), record { number = n; sound = s; staged = inr (l, inl (c, refl)) })
-viewed (answer.stack {n = n} {r = r} s l t j) =
-    let some = some-layers l in
-    inr (
-      (n, s),
-      record {
-        number = n;
-        sound = s;
-        staged =
-            inr (l, inr (held-here some t, inl (r, here (λ es c _. StackJudged es c (stack-is.Refused r)) some t j, refl)));
-      },
-    )
-viewed {x = x} (answer.room {n = n} s t a w) =
-    let l = layers-held t (a .layers) in
-    let some = some-layers l in
-    inr (
-      (n, s),
-      record {
-        number = n;
-        sound = s;
-        staged =
-            inr (
-              l,
-              inr (
-                held-here some t,
-                inr (
-                  here (λ es c _. AcceptedStack es c) some t a,
-                  inl (here (λ es c l. EnoughFor es c l x → ⊥) some t w, refl),
-                ),
-              ),
-            );
-      },
-    )
-viewed {x = x} (answer.strips {n = n} {r = r} s t a e j) =
-    let l = layers-held t (a .layers) in
-    let some = some-layers l in
-    inr (
-      (n, s),
-      record {
-        number = n;
-        sound = s;
-        staged =
-            inr (
-              l,
-              inr (
-                held-here some t,
-                inr (
-                  here (λ es c _. AcceptedStack es c) some t a,
-                  inr (here (λ es c l. EnoughFor es c l x) some t e, inl (r, here (λ es _ l. StripsJudged es l (strips-are.Refused r)) some t j, refl)),
-                ),
-              ),
-            );
-      },
-    )
-viewed {x = x} (answer.whole {n = n} {es = es} {c = c} {l = m} s t a e w) =
-    let l = layers-held t (a .layers) in
-    let some = some-layers l in
+viewed (answer.layers s w) = held-in s (inl (w, refl))
+viewed (answer.content s l c) = held-in s (inr (l, inl (c, refl)))
+viewed (answer.stack {r = r} s l t j) =
+    stored-in s t l (inl (r, here (λ es c _. StackJudged es c (stack-is.Refused r)) (some-layers l) t j, refl))
+viewed {x = x} (answer.room s t a w) =
+    accepted-in s t a (inl (here (λ es c l. EnoughFor es c l x → ⊥) (some-layers (layers-held t (a .layers))) t w, refl))
+viewed (answer.strips {r = r} s t a e j) =
+    enough-in s t a e
+    (inl (r, here (λ es _ l. StripsJudged es l (strips-are.Refused r)) (some-layers (layers-held t (a .layers))) t j, refl))
+viewed {x = x} (answer.whole {es = es} {c = c} {l = m} s t a e w) =
+    let some = some-layers (layers-held t (a .layers)) in
     let o : Outcome = (filled es c m x, read-is.Whole (length es) (length c / 2) (length m)) in
-    inr (
-      (n, s),
-      record {
-        number = n;
-        sound = s;
-        staged =
-            inr (
-              l,
-              inr (
-                held-here some t,
-                inr (
-                  here (λ es c _. AcceptedStack es c) some t a,
-                  inr (
-                    here (λ es c l. EnoughFor es c l x) some t e,
-                    inr (
-                      here (λ es _ l. StripsRight es l) some t w,
-                      (tt, here (λ es c l. o ≡ (filled es c l x, read-is.Whole (length es) (length c / 2) (length l))) some t refl),
-                    ),
-                  ),
-                ),
-              ),
-            );
-      },
-    )
+    enough-in s t a e (inr (
+      here (λ es _ l. StripsRight es l) some t w,
+      (tt, here (λ es c l. o ≡ (filled es c l x, read-is.Whole (length es) (length c / 2) (length l))) some t refl),
+    ))
 
 blocks-once : {f : List ℕ} {q r : Refusal} → BlocksJudged f (blocks-are.Refused q) → BlocksJudged f (blocks-are.Refused r) → q ≡ r
 blocks-once {q = q} {r = r} s t = same (judged-unique s t)

@@ -3,31 +3,31 @@
 -- What is written for an accepted stack with its strips is a sound file whose contents hold that stack and those strips, so reading
 -- answers them (`written-is-read`). What is read with success is the file that is written for what was read (`read-is-written`). So
 -- a file is accepted exactly when it is what `write` makes of some accepted stack with strips (`accepted-exactly`). Assumes nothing.
-use mathlib.Core.Path.{_≡_, refl, sym, ap, ap₂, _∙_, subst}
+use mathlib.Core.Path.{_≡_, refl, sym, ap, _∙_, subst}
 use mathlib.Core.Bool.{Bool, true, false}
 use mathlib.Core.Logic.{_↔_}
-use mathlib.Core.List.{List, [], _∷_, _++_, map}
-use Prim.Native.Nat.{ℕ, zero, suc, _+_, _*_, _-_, _/_, _%_, _≤_, _<_}
+use mathlib.Core.List.{List, map}
+use Prim.Native.Nat.{ℕ, zero, suc, _+_, _*_, _-_, _/_, _≤_, _<_}
 use native.Mathlib.Omega.{arith}
 use lib.Dec.{ltb}
 use lib.IntN.{ℤ, pos}
-use lib.ListN.{length, getD, take, drop, replicate, length-append, length-map}
+use lib.ListN.{length, getD, take, drop, length-map}
 use lib.Seq.{getD-take, getD-drop}
 use borrow.Author.Tests.{ltb-true, ltb-false}
 use Rattle.whole.specs.Between.{Within}
 use Rattle.whole.proofs.Bounds.{between-wider}
 use Rattle.stack.specs.declared.Layer.{Layer}
-use Rattle.stack.specs.Entries.{entry, traceOf, stop, start, steps}
+use Rattle.stack.specs.Entries.{entry, traceOf, stop, start}
 use Rattle.stack.specs.Faults.{AcceptedStack}
 use Rattle.stack.specs.Strips.{StripsRight}
 use Rattle.stack.proofs.StackLaws.{accepted-first, accepted-end, accepted-inside, accepted-count, accepted-plane}
-use Rattle.blocks.specs.Blocks.{two, blocksFor, fileOf, contentsOf}
+use Rattle.blocks.specs.Blocks.{two, blocksFor, contentsOf}
 use Rattle.blocks.specs.Faults.{Sound}
 use Rattle.blocks.proofs.RoundTrip.{sealed-is-sound, seal-then-open, open-then-seal-less}
 use Rattle.register.specs.declared.ReadBack.{ReadBack}
 use Rattle.register.specs.declared.ReadBack.the-variants as read-is
 use Rattle.register.specs.Contents.{contents, contentsLong, registerFile}
-use Rattle.register.specs.Stored.{InWord, Stored, layersIn, LayersIn}
+use Rattle.register.specs.Stored.{InWord, Stored}
 use Rattle.register.specs.Reading.{Lent, lent, EnoughFor, filled, ReadAnswer, whole}
 use Rattle.register.specs.Reading as read
 use Rattle.register.proofs.ReadExact.{read-unique}

@@ -5,12 +5,10 @@ use mathlib.Core.List.{List}
 use Prim.Native.Nat.{ℕ, _≤_, _<_}
 use native.Mathlib.Omega.{arith}
 use lib.IntN.{ℤ}
-use lib.ListN.{length}
 use Rattle.fault.specs.declared.Refusal.{Refusal}
 use Rattle.stack.specs.declared.Layer.{Layer}
 use Rattle.stack.specs.declared.Stack.{Stack}
 use Rattle.stack.specs.declared.StripsJudgement.the-variants as strips-are
-use Rattle.stack.specs.Strips.{StripsRight, StripsJudged}
 use Rattle.stack.specs.Gathered.{Gathers}
 use Rattle.stack.specs.Laid.{laid}
 use Rattle.stack.proofs.Exact.{refused-once, refused-not-accepted, strips-refused-once, strips-refused-not-right}

@@ -1,8 +1,8 @@
 -- What `write` has in hand at each of its returns: an accepted stack has at most 5,000 points, so that its contents fit 98 blocks; and
 -- what is sealed is the file. Assumes nothing.
-use mathlib.Core.Path.{_≡_, refl, sym, ap, ap₂, _∙_, subst}
-use mathlib.Core.List.{List, _++_}
-use Prim.Native.Nat.{ℕ, zero, suc, _+_, _*_, _/_, _≤_, _<_}
+use mathlib.Core.Path.{_≡_, refl, sym, ap, _∙_, subst}
+use mathlib.Core.List.{List}
+use Prim.Native.Nat.{ℕ, zero, suc, _+_, _*_, _/_, _≤_}
 use native.Mathlib.Omega.{arith}
 use lib.IntN.{ℤ}
 use lib.ListN.{length, take, drop}
@@ -13,15 +13,15 @@ use Rattle.stack.specs.declared.Layer.{Layer}
 use Rattle.stack.specs.declared.Stack.{Stack}
 use Rattle.stack.specs.declared.StackJudgement.{StackJudgement}
 use Rattle.stack.specs.declared.StackJudgement.the-variants as stack-is
-use Rattle.stack.specs.Entries.{entry, start, steps}
+use Rattle.stack.specs.Entries.{start}
 use Rattle.stack.specs.Faults.{AcceptedStack, StackJudged}
 use Rattle.stack.specs.Strips.{StripsRight}
 use Rattle.stack.specs.Laid.{laid}
 use Rattle.stack.proofs.Exact.{fit-exactly}
-use Rattle.stack.proofs.Laying.{laid-long, laid-twenty, laid-gathers}
+use Rattle.stack.proofs.Laying.{laid-long, laid-gathers}
 use Rattle.stack.proofs.StackLaws.{accepted-first, accepted-end, accepted-count, accepted-steps}
 use Rattle.stack.proofs.Told.{OfStack}
-use Rattle.blocks.specs.Blocks.{blocksFor, fileOf}
+use Rattle.blocks.specs.Blocks.{blocksFor}
 use Rattle.blocks.specs.declared.Sealing.{Sealing}
 use Rattle.blocks.specs.declared.Sealing.the-variants as sealing-is
 use Rattle.blocks.specs.Faults.{SealAnswer}

@@ -5,5 +5,4 @@ pub mod Writing
 pub mod Reading
 pub mod Decoding
 pub mod Gathering
-pub mod Fronts
 pub mod Answering

@@ -1,7 +1,6 @@
 -- 01, "What comes back", for reading the register file: BLOCK, CHECK (all blocks before any content), LAYERS, CONTENT, trace by trace 2
 -- to 6, PLANES, ROOM ("reading a file needs an entry a layer, two numbers a point and a byte a step"), STRIP. "Each refusal returns
 -- number and place only; the lent memory is untouched." "Success fills the front of each and leaves the rest."
-use mathlib.Core.Path.{_≡_}
 use mathlib.Core.List.{List, _++_, map}
 use Prim.Native.Nat.{ℕ, _/_, _≤_}
 use lib.IntN.{ℤ}

@@ -5,7 +5,7 @@ ghost use lib.ListN.{length, drop};
 ghost use Rattle.stack.specs.declared.Layer.{Layer};
 ghost use Rattle.stack.specs.Laid.{laid};
 ghost use Rattle.register.specs.Decoding.{numbers, coordsFrom};
-ghost use Rattle.register.specs.Fronts.{Front};
+ghost use Rattle.whole.specs.Filled.{Filled};
 use crate::decoding::layer_here;
 use crate::decoding::number_at;
 use stack::Stack;
@@ -14,7 +14,7 @@ use stack::layer_at;
 // `many` numbers, from `at` on.
 fn put_numbers(contents: &[u8], at: usize, many: usize, out: &mut [i32])
     requires { ⌜ (at + 4 * many ≤ 16777216) × (many ≤ length (now out)) ⌝ }
-    ensures { λ _. ⌜ Front (numbers many (drop at (now (contents .entry)))) (now (out .entry)) (now (out .exit)) ⌝ }
+    ensures { λ _. ⌜ Filled (numbers many (drop at (now (contents .entry)))) (now (out .entry)) (now (out .exit)) ⌝ }
 {
     let mut k = 0;
     while k < many {
@@ -27,7 +27,7 @@ fn put_numbers(contents: &[u8], at: usize, many: usize, out: &mut [i32])
 // The coordinates of all layers, each layer's behind those of the layer before.
 pub(crate) fn put_coords(contents: &[u8], layers: usize, out: &mut [i32])
     requires { ⌜ (layers ≤ 20) × (length (coordsFrom layers (drop 2 (now contents))) ≤ length (now out)) ⌝ }
-    ensures { λ _. ⌜ Front (coordsFrom layers (drop 2 (now (contents .entry)))) (now (out .entry)) (now (out .exit)) ⌝ }
+    ensures { λ _. ⌜ Filled (coordsFrom layers (drop 2 (now (contents .entry)))) (now (out .entry)) (now (out .exit)) ⌝ }
 {
     let mut first = 0;
     let mut k = 0;
@@ -43,7 +43,7 @@ pub(crate) fn put_coords(contents: &[u8], layers: usize, out: &mut [i32])
 
 pub(crate) fn put_planes(stack: Stack, out: &mut [i32])
     requires { ⌜ (stack .layers ≤ 20) × (stack .layers ≤ length (now out)) ⌝ }
-    ensures { λ _. ⌜ Front (map (λ (e : Layer). e .plane) (laid stack)) (now (out .entry)) (now (out .exit)) ⌝ }
+    ensures { λ _. ⌜ Filled (map (λ (e : Layer). e .plane) (laid stack)) (now (out .entry)) (now (out .exit)) ⌝ }
 {
     let layers = stack.layers;
     let mut k = 0;
@@ -57,7 +57,7 @@ pub(crate) fn put_planes(stack: Stack, out: &mut [i32])
 
 pub(crate) fn put_firsts(stack: Stack, out: &mut [usize])
     requires { ⌜ (stack .layers ≤ 20) × (stack .layers ≤ length (now out)) ⌝ }
-    ensures { λ _. ⌜ Front (map (λ (e : Layer). e .first) (laid stack)) (now (out .entry)) (now (out .exit)) ⌝ }
+    ensures { λ _. ⌜ Filled (map (λ (e : Layer). e .first) (laid stack)) (now (out .entry)) (now (out .exit)) ⌝ }
 {
     let layers = stack.layers;
     let mut k = 0;
@@ -70,7 +70,7 @@ pub(crate) fn put_firsts(stack: Stack, out: &mut [usize])
 
 pub(crate) fn put_counts(stack: Stack, out: &mut [usize])
     requires { ⌜ (stack .layers ≤ 20) × (stack .layers ≤ length (now out)) ⌝ }
-    ensures { λ _. ⌜ Front (map (λ (e : Layer). e .count) (laid stack)) (now (out .entry)) (now (out .exit)) ⌝ }
+    ensures { λ _. ⌜ Filled (map (λ (e : Layer). e .count) (laid stack)) (now (out .entry)) (now (out .exit)) ⌝ }
 {
     let layers = stack.layers;
     let mut k = 0;
@@ -81,13 +81,14 @@ pub(crate) fn put_counts(stack: Stack, out: &mut [usize])
     }
 }
 
-pub(crate) fn put_strips(strips: &[u8], out: &mut [u8])
-    requires { ⌜ length (now strips) ≤ length (now out) ⌝ }
-    ensures { λ _. ⌜ Front (now (strips .entry)) (now (out .entry)) (now (out .exit)) ⌝ }
+// Bytes as they stand.
+pub(crate) fn put_bytes(bytes: &[u8], out: &mut [u8])
+    requires { ⌜ length (now bytes) ≤ length (now out) ⌝ }
+    ensures { λ _. ⌜ Filled (now (bytes .entry)) (now (out .entry)) (now (out .exit)) ⌝ }
 {
     let mut k = 0;
-    while k < strips.len() {
-        out[k] = strips[k];
+    while k < bytes.len() {
+        out[k] = bytes[k];
         k += 1;
     }
 }

@@ -11,6 +11,7 @@ ghost use Rattle.stack.specs.Faults.{AcceptedStack};
 ghost use Rattle.stack.specs.Strips.{StripsRight};
 ghost use Rattle.stack.specs.Laid.{laid};
 ghost use Rattle.register.specs.Contents.{complement, four, fours, layerBytes, layersBytes, contents, contentsLong};
+use crate::fronts::put_bytes;
 use stack::Layer;
 use stack::Stack;
 use stack::layer_at;
@@ -100,18 +101,6 @@ fn put_layers(out: &mut [u8], stack: Stack, coords: &[i32]) -> usize
     at
 }
 
-// Bytes as they stand.
-fn put_bytes(out: &mut [u8], bytes: &[u8])
-    requires { ⌜ length (now bytes) ≤ length (now out) ⌝ }
-    ensures { λ _. ⌜ Filled (now (bytes .entry)) (now (out .entry)) (now (out .exit)) ⌝ }
-{
-    let mut k = 0;
-    while k < bytes.len() {
-        out[k] = bytes[k];
-        k += 1;
-    }
-}
-
 // Number of layers, layers, strips.
 pub(crate) fn put_contents(out: &mut [u8], stack: Stack, coords: &[i32], strips: &[u8])
     requires { ⌜ AcceptedStack (laid stack) (now coords) × StripsRight (laid stack) (now strips)
@@ -121,5 +110,5 @@ pub(crate) fn put_contents(out: &mut [u8], stack: Stack, coords: &[i32], strips:
     let first = 2;
     put_two(out, stack.layers);
     let at = first + put_layers(&mut out[first..], stack, coords);
-    put_bytes(&mut out[at..], strips);
+    put_bytes(strips, &mut out[at..]);
 }

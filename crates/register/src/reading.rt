@@ -9,11 +9,11 @@ ghost use Rattle.register.specs.Reading.{lent, EnoughFor, filled};
 ghost use Rattle.register.specs.Answering.{Ready, ReadFrom, blocksRefusal};
 use crate::ReadBack;
 use crate::decoding::two_at;
+use crate::fronts::put_bytes;
 use crate::fronts::put_coords;
 use crate::fronts::put_counts;
 use crate::fronts::put_firsts;
 use crate::fronts::put_planes;
-use crate::fronts::put_strips;
 use crate::gathering::stack_of;
 use crate::judging::Extent;
 use crate::judging::content_right;
@@ -231,5 +231,5 @@ fn fill(
     put_firsts(stack, firsts);
     put_counts(stack, counts);
     put_coords(contents, stack.layers, coords);
-    put_strips(&contents[from..end], strips);
+    put_bytes(&contents[from..end], strips);
 }

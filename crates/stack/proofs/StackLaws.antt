@@ -122,9 +122,6 @@ band-all (e ∷ f ∷ es) zero h = absurd (none (length es) h)
     none n h = omega arith
 band-all (e ∷ f ∷ es) (suc k) h = omega (arith, band-cons e (f ∷ es) k, band-all (f ∷ es) k (omega arith))
 
-pub band-top : (es : List Layer) (k : ℕ) → suc k ≡ length es → bandStart es k ≡ steps es
-band-top es k h = band-all es k (omega arith)
-
 pub band-within : (es : List Layer) (k : ℕ) → suc k < length es → bandStart es (suc k) ≤ steps es
 unfolding bandStart steps
 band-within [] k h = omega arith

@@ -1,7 +1,7 @@
 -- Bytes that are a strip, byte by byte: one byte more is one step more, every byte is 0 or 1, and the bytes leave no choice of
 -- the numbers of steps, since they can be read back. Assumes nothing.
 use mathlib.Core.Path.{_≡_, refl, sym, ap, _∙_, subst}
-use mathlib.Core.List.{List, [], _∷_, _++_, map, map-append}
+use mathlib.Core.List.{List, [], _∷_, _++_, map-append}
 use mathlib.Core.Bool.{Bool, _&&_}
 use Prim.Native.Nat.{ℕ, zero, suc, _+_, _-_, _≤_, _<_}
 use native.Mathlib.Numerals.{add-one}
@@ -14,6 +14,7 @@ use Rattle.whole.proofs.Telling.{tells-same, tells-eqb, tells-and}
 use Rattle.ways.specs.Strip.{Step, A, B, stepsA, stepsB}
 use Rattle.ways.proofs.Way.{steps-append}
 use Rattle.strip.specs.Bytes.{byteOf, bytes, IsStrip}
+use Rattle.strip.proofs.BytesLaws.{strip-steps}
 use Rattle.stack.specs.declared.Layer.{Layer}
 use Rattle.stack.specs.declared.Stack.{Stack}
 use Rattle.stack.specs.Entries.{entry, steps, bandStart}
@@ -63,22 +64,11 @@ small (x ∷ s) (suc k) = small s k
 pub strip-small : {m n : ℕ} {l : List ℕ} → IsStrip m n l → (k : ℕ) → getD l k 0 ≤ 1
 strip-small s k = subst (λ (l : List ℕ). getD l k 0 ≤ 1) (sym (s .written)) (small (s .steps) k)
 
--- ---- the bytes read back
-
-stepOf : ℕ → Step
-stepOf zero = A
-stepOf (suc n) = B
-
-read-bytes : (s : List Step) → map stepOf (bytes s) ≡ s
-unfolding stepOf
-read-bytes [] = refl
-read-bytes (A ∷ s) = ap (λ (t : List Step). A ∷ t) (read-bytes s)
-read-bytes (B ∷ s) = ap (λ (t : List Step). B ∷ t) (read-bytes s)
+-- ---- bytes are a strip of so many steps only
 
 pub strip-same : {a b m n : ℕ} {l : List ℕ} → IsStrip a b l → IsStrip m n l → (a ≡ m) × (b ≡ n)
 strip-same s t =
-    let same : s .steps ≡ t .steps =
-    sym (read-bytes (s .steps)) ∙ ap (λ (l : List ℕ). map stepOf l) (sym (s .written) ∙ t .written) ∙ read-bytes (t .steps) in
+    let same : s .steps ≡ t .steps = strip-steps s ∙ sym (strip-steps t) in
     (sym (s .strip .hasA) ∙ ap stepsA same ∙ t .strip .hasA, sym (s .strip .hasB) ∙ ap stepsB same ∙ t .strip .hasB)
 
 -- all of the list

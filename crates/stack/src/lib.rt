@@ -3,8 +3,7 @@ ghost use mathlib.Core.Path.{_≡_};
 ghost use mathlib.Core.List.{List};
 ghost use Prim.Native.Nat.{ℕ, suc, _+_, _-_, _*_, _/_, _%_, _≤_, _<_, min};
 ghost use lib.ListN.{length};
-ghost use Rattle.whole.specs.Between.{Within};
-ghost use Rattle.whole.specs.Lowest.{Sought, FirstOf};
+ghost use Rattle.whole.specs.Lowest.{Sought, FirstPlace};
 ghost use Rattle.whole.specs.Tells.{Tells};
 ghost use Rattle.trace.specs.Judged.{judged};
 ghost use Rattle.trace.specs.Faults.{Accepted};
@@ -19,6 +18,7 @@ ghost use Rattle.stack.specs.Laid.{laid};
 use fault::Fault;
 use fault::Refusal;
 use trace::Judgement;
+use trace::in_range;
 
 // One layer: its plane, its first point in the common list, and its number of points.
 pub struct Layer {
@@ -195,7 +195,7 @@ fn breaks(stack: Stack, coords: &[i32], k: usize) -> bool
 // The lowest entry that breaks the stack rule, or the number of layers.
 fn first_break(stack: Stack, coords: &[i32]) -> usize
     requires { ⌜ stack .layers ≤ 20 ⌝ }
-    ensures { λ r. ⌜ FirstOf (Breaks (laid stack) (now (coords .entry))) (length (laid stack)) r ⌝ }
+    ensures { λ r. ⌜ FirstPlace (Breaks (laid stack) (now (coords .entry))) (length (laid stack)) r ⌝ }
 {
     let layers = stack.layers;
     let mut k = 0;
@@ -232,13 +232,6 @@ fn judge_traces(stack: Stack, coords: &[i32]) -> StackJudgement
     judge_planes(stack, coords)
 }
 
-// From -100,000 to 100,000.
-fn in_range(v: i32) -> bool
-    ensures { λ r. ⌜ Tells (Within 100000 v) r ⌝ }
-{
-    (-100_000 <= v) & (v <= 100_000)
-}
-
 // Whether the plane of layer `k` is outside its range, or not above the one below. Layer 0 has none below.
 fn plane_wrong(stack: Stack, k: usize) -> bool
     requires { ⌜ (k < stack .layers) × (stack .layers ≤ 20) ⌝ }
@@ -255,7 +248,7 @@ fn plane_wrong(stack: Stack, k: usize) -> bool
 // The lowest layer whose plane is at fault, or the number of layers.
 fn first_plane_wrong(stack: Stack) -> usize
     requires { ⌜ stack .layers ≤ 20 ⌝ }
-    ensures { λ r. ⌜ FirstOf (PlaneFault (laid stack)) (length (laid stack)) r ⌝ }
+    ensures { λ r. ⌜ FirstPlace (PlaneFault (laid stack)) (length (laid stack)) r ⌝ }
 {
     let layers = stack.layers;
     let mut k = 0;

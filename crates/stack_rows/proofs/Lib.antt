@@ -1,2 +1,2 @@
--- The laws behind `kept`.
+-- The laws behind `kept` and `same`.
 mod KeptLaws

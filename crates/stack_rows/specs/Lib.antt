@@ -1,2 +1,2 @@
--- What `kept` means.
+-- What `kept` and `same` mean.
 pub mod Kept

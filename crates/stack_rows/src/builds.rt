@@ -1,4 +1,4 @@
-// Stacks to be judged.
+// Stacks, and files by their bytes.
 ghost use mathlib.Core.Path.{_≡_};
 ghost use Prim.Native.Nat.{_≤_, _<_};
 ghost use lib.ListN.{length};
@@ -73,18 +73,47 @@ pub(crate) fn three() -> Stack {
     with_layer(pair(0, 1), 2, 2, 6, 4)
 }
 
-// 20 layers of 250 points, at planes 0, 100, .., 1,900.
+// T's file: two layers; plane 0, three points (0,0) (2,0) (0,2); plane 1, the same points; the steps BABABA; zeros; the check 667, which
+// is 155 + 2·256; two zeros. The check: 1 + 1·2 + 7·3 + 17·2 + 29·2 + 33·1 + 37·3 + 47·2 + 59·2 + 63 + 65 + 67.
+pub(crate) fn file_of_t() -> [u8; 512]
+    ensures { λ r. ⌜ length r ≡ 512 ⌝ }
+{
+    let mut file = [0u8; 512];
+    file[0] = 2;
+    file[6] = 3;
+    file[16] = 2;
+    file[28] = 2;
+    file[32] = 1;
+    file[36] = 3;
+    file[46] = 2;
+    file[58] = 2;
+    file[62] = 1;
+    file[64] = 1;
+    file[66] = 1;
+    file[508] = 155;
+    file[509] = 2;
+    file
+}
+
+// 20 layers of 250 points, at planes -1,000, -900, .., 900.
 pub(crate) fn tower() -> Stack {
     let mut stack = empty();
     let mut k: usize = 0;
     while k < 20 {
-        stack = with_layer(stack, k, (100 * k) as i32, 250 * k, 250);
+        stack = with_layer(stack, k, lowered(100 * k + 24_000), 250 * k, 250);
         k += 1;
     }
     stack
 }
 
-// Their coordinates.
+// 25,000 less.
+fn lowered(n: usize) -> i32
+    requires { ⌜ n ≤ 50000 ⌝ }
+{
+    n as i32 - 25_000
+}
+
+// Their coordinates: layer k is a rectangle of 2,480 by 2,500, k+1 times as large, from (-25,000, -25,000).
 pub(crate) fn tower_coords() -> [i32; 10000]
     ensures { λ r. ⌜ length r ≡ 10000 ⌝ }
 {
@@ -102,7 +131,7 @@ pub(crate) fn tower_coords() -> [i32; 10000]
 fn tower_x(i: usize) -> i32
     requires { ⌜ i < 5000 ⌝ }
 {
-    times(20 * (i / 250 + 1), along(i % 250)) as i32
+    lowered(times(20 * (i / 250 + 1), along(i % 250)))
 }
 
 fn along(j: usize) -> usize
@@ -123,9 +152,9 @@ fn tower_y(i: usize) -> i32
     requires { ⌜ i < 5000 ⌝ }
 {
     if i % 250 < 125 {
-        0
+        lowered(0)
     } else {
-        (2500 * (i / 250 + 1)) as i32
+        lowered(2500 * (i / 250 + 1))
     }
 }
 

@@ -6,21 +6,23 @@ use crate::builds::three;
 use crate::builds::two;
 use crate::builds::with_layer;
 use crate::builds::with_layers;
-use crate::tells::end;
-use crate::tells::say;
+use crate::says::end;
+use crate::says::say;
 use crate::tells::tell_best;
+use crate::tells::tell_four;
 use crate::tells::tell_judged;
 use crate::tells::tell_strips;
-use crate::tells::tell_three;
 use crate::tells::tell_triangles;
 use crate::tells::tell_volume;
+use crate::tells::tell_write;
 use stack::Stack;
 
-// The four functions that judge the stack first.
-fn all_four(label: &[u8], stack: Stack, coords: &[i32]) {
+// The five functions that judge the stack first.
+fn all_five(label: &[u8], stack: Stack, coords: &[i32]) {
     let mut strips = [7u8; 16];
     let mut work = [7u8; 64];
     let mut out = [7u32; 64];
+    let mut file = [7u8; 512];
     let some = [0u8; 6];
     say(label);
     say(b": judge_stack");
@@ -31,15 +33,17 @@ fn all_four(label: &[u8], stack: Stack, coords: &[i32]) {
     tell_volume(mesh::volume(stack, coords, &some));
     say(b", triangles");
     tell_triangles(stack, coords, &some, &mut out);
+    say(b", write");
+    tell_write(stack, coords, &some, &mut file);
     end();
 }
 
 pub(crate) fn stacks() {
     let coords = [0, 0, 2, 0, 0, 2, 0, 0, 2, 0, 0, 2];
-    all_four(b"no layer", empty(), &coords);
-    all_four(b"1 layer", with_layers(pair(0, 1), 1), &coords);
-    all_four(b"21 layers", with_layers(pair(0, 1), 21), &coords);
-    all_four(
+    all_five(b"no layer", empty(), &coords);
+    all_five(b"1 layer", with_layers(pair(0, 1), 1), &coords);
+    all_five(b"21 layers", with_layers(pair(0, 1), 21), &coords);
+    all_five(
         b"an odd number of coordinates",
         pair(0, 1),
         &[0, 0, 2, 0, 0, 2, 0, 0, 2, 0, 0],
@@ -52,33 +56,33 @@ pub(crate) fn stacks() {
 fn spans() {
     let coords = [0, 0, 2, 0, 0, 2, 0, 0, 2, 0, 0, 2];
     let most = 18_446_744_073_709_551_615;
-    all_four(
+    all_five(
         b"the first layer not from point 0",
         two(0, 1, 2, 1, 3, 3),
         &coords,
     );
-    all_four(
+    all_five(
         b"a gap before the second of three layers",
         with_layer(two(0, 0, 2, 1, 3, 1), 2, 2, 4, 2),
         &coords,
     );
-    all_four(
+    all_five(
         b"the last layer past the end",
         two(0, 0, 3, 1, 3, 4),
         &coords,
     );
-    all_four(
+    all_five(
         b"the last layer short of the end",
         two(0, 0, 3, 1, 3, 2),
         &coords,
     );
     // Sums that would wrap round onto a right stop.
-    all_four(
+    all_five(
         b"the last count near the end of its type",
         two(0, 0, 3, 1, 3, most),
         &coords,
     );
-    all_four(
+    all_five(
         b"counts that wrap onto the end",
         two(0, 0, most, 1, most, 7),
         &coords,
@@ -86,34 +90,34 @@ fn spans() {
 }
 
 fn traces() {
-    all_four(
+    all_five(
         b"a layer of 2 points",
         two(0, 0, 3, 1, 3, 2),
         &[0, 0, 2, 0, 0, 2, 0, 0, 2, 0],
     );
     let many = many_coords();
-    all_four(b"a layer of 251 points", two(0, 0, 3, 1, 3, 251), &many);
-    all_four(
+    all_five(b"a layer of 251 points", two(0, 0, 3, 1, 3, 251), &many);
+    all_five(
         b"a coordinate of 100,001",
         pair(0, 1),
         &[0, 0, 2, 0, 0, 2, 0, 0, 100_001, 0, 0, 2],
     );
-    all_four(
+    all_five(
         b"equal neighbours below",
         pair(0, 1),
         &[0, 0, 0, 0, 0, 2, 0, 0, 2, 0, 0, 2],
     );
-    all_four(
+    all_five(
         b"last and first equal above",
         two(0, 0, 3, 1, 3, 4),
         &[0, 0, 2, 0, 0, 2, 0, 0, 2, 0, 0, 2, 0, 0],
     );
-    all_four(
+    all_five(
         b"turned above",
         pair(0, 1),
         &[0, 0, 2, 0, 0, 2, 0, 0, 0, 2, 2, 0],
     );
-    all_four(
+    all_five(
         b"flat below, turned above",
         pair(0, 1),
         &[0, 0, 1, 0, 2, 0, 0, 0, 0, 2, 2, 0],
@@ -122,12 +126,12 @@ fn traces() {
 
 fn planes() {
     let coords = [0, 0, 2, 0, 0, 2, 0, 0, 2, 0, 0, 2];
-    all_four(b"equal planes", pair(1, 1), &coords);
-    all_four(b"planes that fall", pair(1, 0), &coords);
-    all_four(b"the lower plane -100,001", pair(-100_001, 1), &coords);
-    all_four(b"the upper plane 100,001", pair(0, 100_001), &coords);
+    all_five(b"equal planes", pair(1, 1), &coords);
+    all_five(b"planes that fall", pair(1, 0), &coords);
+    all_five(b"the lower plane -100,001", pair(-100_001, 1), &coords);
+    all_five(b"the upper plane 100,001", pair(0, 100_001), &coords);
     // At the ends of the range: accepted. Six steps A are no strip.
-    all_four(
+    all_five(
         b"planes -100,000 and 100,000",
         pair(-100_000, 100_000),
         &coords,
@@ -138,6 +142,7 @@ fn planes() {
 pub(crate) fn rooms() {
     strip_room();
     list_room();
+    file_room();
     second_band();
 }
 
@@ -167,6 +172,17 @@ fn list_room() {
     end();
 }
 
+fn file_room() {
+    let coords = [0, 0, 2, 0, 0, 2, 0, 0, 2, 0, 0, 2];
+    let mut out = [7u8; 511];
+    say(b"511 bytes for one block: write");
+    tell_write(pair(0, 1), &coords, &[1, 0, 1, 0, 1, 0], &mut out);
+    end();
+    say(b"511 bytes for one block, and no strips: write");
+    tell_write(pair(0, 1), &coords, &[7, 7], &mut out);
+    end();
+}
+
 // Three layers, the upper band with 20 cells.
 fn second_band() {
     let coords = [0, 0, 2, 0, 0, 2, 0, 0, 2, 0, 0, 2, 0, 0, 2, 0, 2, 2, 0, 2];
@@ -182,41 +198,42 @@ fn second_band() {
     end();
 }
 
-// Strips, where there is room for the list.
-fn all_three(label: &[u8], stack: Stack, strips: &[u8]) {
+// Strips, where there is room for the list and for the file.
+fn with_strips(label: &[u8], stack: Stack, strips: &[u8]) {
     let coords = [0, 0, 2, 0, 0, 2, 0, 0, 2, 0, 0, 2, 0, 0, 2, 0, 2, 2, 0, 2];
     let mut out = [7u32; 64];
-    tell_three(label, stack, &coords, strips, &mut out);
+    let mut file = [7u8; 512];
+    tell_four(label, stack, &coords, strips, &mut out, &mut file);
 }
 
 pub(crate) fn strips() {
-    all_three(b"strips", three(), &[0, 0, 0, 1, 1, 1, 0, 0, 0, 1, 1, 1, 1]);
-    all_three(
+    with_strips(b"strips", three(), &[0, 0, 0, 1, 1, 1, 0, 0, 0, 1, 1, 1, 1]);
+    with_strips(
         b"a step too few",
         three(),
         &[0, 0, 0, 1, 1, 1, 0, 0, 0, 1, 1, 1],
     );
-    all_three(
+    with_strips(
         b"a step too many",
         three(),
         &[0, 0, 0, 1, 1, 1, 0, 0, 0, 1, 1, 1, 1, 0],
     );
-    all_three(
+    with_strips(
         b"a byte 2 in the lower band",
         three(),
         &[0, 0, 0, 1, 1, 2, 0, 0, 0, 1, 1, 1, 1],
     );
-    all_three(
+    with_strips(
         b"four steps A in the upper band",
         three(),
         &[0, 0, 0, 1, 1, 1, 0, 0, 0, 0, 1, 1, 1],
     );
-    all_three(
+    with_strips(
         b"both bands wrong",
         three(),
         &[0, 0, 0, 0, 1, 1, 0, 0, 0, 0, 1, 1, 1],
     );
-    all_three(
+    with_strips(
         b"21 layers",
         with_layers(three(), 21),
         &[0, 0, 0, 1, 1, 1, 0, 0, 0, 1, 1, 1, 1],

@@ -1,52 +1,25 @@
 // What is printed of an answer.
-ghost use lib.ListN.{length};
 ghost use Rattle.whole.specs.Tells.{Tells};
-ghost use Rattle.stack_rows.specs.Kept.{AllAre, Kept};
+ghost use Rattle.stack_rows.specs.Kept.{StripsKept, Kept};
+use crate::compares::bytes_are;
+use crate::compares::sevens_bytes;
+use crate::compares::sevens_numbers;
+use crate::compares::sevens_places;
+use crate::compares::sevens_vertices;
+use crate::says::end;
+use crate::says::say;
+use crate::says::tell_kept;
+use crate::says::tell_number;
+use crate::says::tell_refusal;
+use crate::says::tell_six;
 use bands::Banded;
-use fault::Refusal;
-use libc::STDOUT_FILENO;
 use mesh::Meshed;
 use mesh::Volumed;
+use register::ReadBack;
+use register::Written;
 use stack::Stack;
 use stack::StackJudgement;
 use stack::StripsJudgement;
-
-pub(crate) fn say(text: &[u8]) {
-    io::write_all(STDOUT_FILENO, text);
-}
-
-pub(crate) fn end() {
-    io::write_all(STDOUT_FILENO, b"\n");
-}
-
-fn tell_number(n: u64) {
-    io::write_all(STDOUT_FILENO, b" ");
-    io::print_decimal(STDOUT_FILENO, n);
-}
-
-// Six times a volume. All that are printed are above zero.
-fn tell_six(six: i64) {
-    if 0 < six {
-        tell_number(six as u64);
-    } else {
-        say(b" not above zero");
-    }
-}
-
-fn tell_refusal(refusal: Refusal) {
-    let fault = refusal.fault;
-    say(b" refused");
-    tell_number(fault::number(fault) as u64);
-    tell_number(refusal.place as u64);
-}
-
-fn tell_kept(kept: bool) {
-    if kept {
-        say(b" kept");
-    } else {
-        say(b" touched");
-    }
-}
 
 pub(crate) fn tell_judged(judged: StackJudgement) {
     match judged {
@@ -73,37 +46,6 @@ pub(crate) fn tell_volume(volumed: Volumed) {
     }
 }
 
-// Whether all bytes from `from` up to `to` are `value`.
-fn bytes_are(bytes: &[u8], from: usize, to: usize, value: u8) -> bool
-    ensures { λ r. ⌜ Tells (AllAre (now (bytes .entry)) from to value) r ⌝ }
-{
-    let mut k = from;
-    while k < to {
-        if bytes.len() <= k {
-            return false;
-        }
-        if bytes[k] != value {
-            return false;
-        }
-        k += 1;
-    }
-    true
-}
-
-// Whether all numbers from `from` on are the guard.
-fn rest_kept(out: &[u32], from: usize) -> bool
-    ensures { λ r. ⌜ Tells (AllAre (now (out .entry)) from (length (now (out .entry))) 7) r ⌝ }
-{
-    let mut k = from;
-    while k < out.len() {
-        if out[k] != 7 {
-            return false;
-        }
-        k += 1;
-    }
-    true
-}
-
 // What `best_strips` answers. After success the bytes behind the strips are the guard, `cells` work bytes are zero and the rest of
 // them the guard; after a refusal all are the guard.
 pub(crate) fn tell_best(
@@ -128,11 +70,9 @@ pub(crate) fn tell_best(
 }
 
 fn left(strips: &[u8], work: &[u8], steps: usize, cells: usize) -> bool
-    ensures { λ r. ⌜ Tells (Kept (now (strips .entry)) (now (work .entry)) steps cells) r ⌝ }
+    ensures { λ r. ⌜ Tells (StripsKept (now (strips .entry)) (now (work .entry)) steps cells) r ⌝ }
 {
-    bytes_are(strips, steps, strips.len(), 7)
-        & bytes_are(work, 0, cells, 0)
-        & bytes_are(work, cells, work.len(), 7)
+    sevens_bytes(strips, steps) & bytes_are(work, 0, cells, 0) & sevens_bytes(work, cells)
 }
 
 // What `triangles` answers, and whether the numbers behind the list are the guard.
@@ -147,7 +87,7 @@ pub(crate) fn tell_triangles(stack: Stack, coords: &[i32], strips: &[u8], out: &
         }
         Meshed::Refused(refusal) => {
             tell_refusal(refusal);
-            tell_kept(rest_kept(out, 0));
+            tell_kept(sevens_vertices(out, 0));
         }
     }
 }
@@ -155,23 +95,100 @@ pub(crate) fn tell_triangles(stack: Stack, coords: &[i32], strips: &[u8], out: &
 // (No list is longer than 10,000 triangles.)
 fn closed_kept(out: &[u32], triangles: usize) -> bool {
     if triangles <= 10_000 {
-        rest_kept(out, 3 * triangles)
+        sevens_vertices(out, 3 * triangles)
     } else {
         false
     }
 }
 
-fn wide(x: u32) -> u64 {
-    x as u64
+// What `write` answers, and whether the bytes behind the file are the guard; after a refusal all are.
+pub(crate) fn tell_write(stack: Stack, coords: &[i32], strips: &[u8], out: &mut [u8]) {
+    let answer = register::write(stack, coords, strips, out);
+    match answer {
+        Written::Bytes(bytes) => {
+            say(b" bytes");
+            tell_number(bytes as u64);
+            tell_kept(sevens_bytes(out, bytes));
+        }
+        Written::Refused(refusal) => {
+            tell_refusal(refusal);
+            tell_kept(sevens_bytes(out, 0));
+        }
+    }
 }
 
-// The three functions that judge the strips.
-pub(crate) fn tell_three(
+// What `read` answers: layers, points and steps, and whether every element behind what was read is the guard; after a refusal all are.
+pub(crate) fn tell_read(
+    file: &[u8],
+    planes: &mut [i32],
+    firsts: &mut [usize],
+    counts: &mut [usize],
+    coords: &mut [i32],
+    strips: &mut [u8],
+) {
+    let answer = register::read(file, planes, firsts, counts, coords, strips);
+    match answer {
+        ReadBack::Whole {
+            layers,
+            points,
+            steps,
+        } => {
+            say(b" whole");
+            tell_number(layers as u64);
+            tell_number(points as u64);
+            tell_number(steps as u64);
+            tell_kept(behind(
+                planes,
+                firsts,
+                counts,
+                coords,
+                strips,
+                layers,
+                twice(points),
+                steps,
+            ));
+        }
+        ReadBack::Refused(refusal) => {
+            tell_refusal(refusal);
+            tell_kept(behind(planes, firsts, counts, coords, strips, 0, 0, 0));
+        }
+    }
+}
+
+// Two numbers a point. (No stack has more than 5,000 points.)
+fn twice(points: usize) -> usize {
+    if points <= 5_000 { 2 * points } else { 0 }
+}
+
+// Whether all that is lent is the guard, but for the fronts of so many layers, numbers and steps.
+pub(crate) fn behind(
+    planes: &[i32],
+    firsts: &[usize],
+    counts: &[usize],
+    coords: &[i32],
+    strips: &[u8],
+    layers: usize,
+    numbers: usize,
+    steps: usize,
+) -> bool
+    ensures { λ r. ⌜ Tells (Kept (now (planes .entry)) (now (firsts .entry)) (now (counts .entry)) (now (coords .entry))
+        (now (strips .entry)) layers numbers steps) r ⌝ }
+{
+    sevens_numbers(planes, layers)
+        & sevens_places(firsts, layers)
+        & sevens_places(counts, layers)
+        & sevens_numbers(coords, numbers)
+        & sevens_bytes(strips, steps)
+}
+
+// The four functions that judge the strips.
+pub(crate) fn tell_four(
     label: &[u8],
     stack: Stack,
     coords: &[i32],
     strips: &[u8],
     out: &mut [u32],
+    file: &mut [u8],
 ) {
     say(label);
     say(b": judge_strips");
@@ -180,16 +197,7 @@ pub(crate) fn tell_three(
     tell_volume(mesh::volume(stack, coords, strips));
     say(b", triangles");
     tell_triangles(stack, coords, strips, out);
+    say(b", write");
+    tell_write(stack, coords, strips, file);
     end();
-}
-
-// The first `n` numbers.
-pub(crate) fn tell_list(out: &[u32], n: usize) {
-    let mut k = 0;
-    while k < n {
-        if k < out.len() {
-            tell_number(wide(out[k]));
-        }
-        k += 1;
-    }
 }

@@ -18,7 +18,7 @@ use Rattle.ways.specs.Value.{Worths, value, valueFrom}
 use Rattle.ways.proofs.Way.{steps-append, steps-length}
 use Rattle.ways.proofs.Greatest.{value-snocA, value-snocB}
 use Rattle.trace.specs.Points.{count}
-use Rattle.trace.specs.Pair.{at}
+use Rattle.trace.specs.Pair.{at, PairCounts}
 use Rattle.fault.specs.declared.Fault.the-variants.{Strip as NoStrip}
 use Rattle.strip.specs.declared.Walked.{Walked}
 use Rattle.strip.specs.declared.Valued.{Valued}
@@ -26,7 +26,7 @@ use Rattle.strip.specs.declared.Valued.the-variants.{Value, Refused}
 use Rattle.strip.specs.Worth.{worths}
 use Rattle.strip.specs.Bytes.{byteOf, bytes, IsStrip}
 use Rattle.strip.specs.Judging.{StripJudged, other, strip}
-use Rattle.strip.specs.Walk.{worthOf, Sides, Ready, Room, By, Stepped, by, full, over, lost, Alive, Along, answered}
+use Rattle.strip.specs.Walk.{worthOf, Ready, Room, By, Stepped, by, full, over, lost, Alive, Along, answered}
 use Rattle.strip.proofs.BytesLaws.{bytes-length, is-strip-length, Goes, goes-on, numbers-exactly}
 use Rattle.strip.proofs.ValueLaws.{value-within}
 
@@ -53,7 +53,7 @@ along-begun a b l s ei ej ev e = record {
 
 -- ---- what one byte more asks
 
-pub along-ready : {a b : List ℤ} {l : List ℕ} {k m n : ℕ} {s : Walked} → Sides a b m n → Along a b l k s → Ready m n s
+pub along-ready : {a b : List ℤ} {l : List ℕ} {k m n : ℕ} {s : Walked} → PairCounts a b m n → Along a b l k s → Ready m n s
 along-ready {a} {b} {l} {k} {m} {n} {s} f g = record {
   inA = λ e. omega (arith, f .countA, g .alive e .inA);
   inB = λ e. omega (arith, f .countB, g .alive e .inB);
@@ -124,7 +124,7 @@ along-more h d g (lost f e) = none f (g .lost e)
 -- ---- at the end
 
 -- with the right length and none too many of either kind there are just enough
-enough : {a b : List ℤ} {l : List ℕ} {m n : ℕ} {s : Walked} → Sides a b m n → length l ≡ m + n → (v : Alive a b l (length l) s)
+enough : {a b : List ℤ} {l : List ℕ} {m n : ℕ} {s : Walked} → PairCounts a b m n → length l ≡ m + n → (v : Alive a b l (length l) s)
     → l ≡ bytes (v .steps) → Strip (count a) (count b) (v .steps)
 enough {l = l} f e v w =
     let k : length l ≡ length (v .steps) = ap length w ∙ bytes-length (v .steps) in
@@ -134,7 +134,7 @@ enough {l = l} f e v w =
       hasB = omega (arith, f .countA, f .countB, v .hasA, v .hasB, v .inA, v .inB);
     }
 
-module _ {a b : List ℤ} {l : List ℕ} {m n : ℕ} {r : Valued} (s : Walked) (f : Sides a b m n) (told : r ≡ answered s) where
+module _ {a b : List ℤ} {l : List ℕ} {m n : ℕ} {r : Valued} (s : Walked) (f : PairCounts a b m n) (told : r ≡ answered s) where
   -- of another length it is no strip
   pub length-judged : (length l ≡ m + n → ⊥) → s .ok ≡ false → StripJudged a b l r
   length-judged d e = rw (told, e) (other (f .pair) (λ p. d (omega (arith, is-strip-length p, f .countA, f .countB))))

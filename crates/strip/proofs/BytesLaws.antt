@@ -1,44 +1,39 @@
--- Bytes and steps: each step has its own byte, so the bytes of a strip are those of one strip only; bytes are a strip exactly if
+-- Bytes and steps: the bytes of a strip say its steps, so they are those of one strip only; bytes are a strip exactly if
 -- none is over 1 and as many are 0 and 1 as there are to be steps of each kind. By recursion along the list. Assumes nothing.
 use mathlib.Core.Path.{_≡_, refl, sym, ap, ap₂, _∙_, subst}
 use mathlib.Core.Logic.{_↔_}
-use mathlib.Core.List.{List, [], _∷_, _++_}
+use mathlib.Core.List.{List, [], _∷_, _++_, map-append}
 use Prim.Native.Nat.{ℕ, zero, suc, _+_, _≤_, _<_}
 use native.Mathlib.Omega.{arith}
-use lib.ListN.{length, getD, take, length-map}
-use Rattle.ways.specs.Strip.{Step, A, B, stepsA, stepsB}
+use lib.ListN.{length, getD, take, drop, take-append-drop, length-map}
+use lib.Seq.{drop-cons}
+use Rattle.ways.specs.Strip.{Step, A, B, stepsA, stepsB, Strip}
 use Rattle.ways.proofs.Greatest.{strip-length}
-use Rattle.strip.specs.Bytes.{byteOf, bytes, IsStrip, times, Numbers}
+use Rattle.strip.specs.Bytes.{byteOf, bytes, stepOf, stepsOf, IsStrip, times, Numbers}
 
--- ---- a step from its byte
+-- ---- steps from their bytes
 
-byteOf-injective : (x y : Step) → byteOf x ≡ byteOf y → x ≡ y
-byteOf-injective A A e = refl
-byteOf-injective A B e = absurd (differ e)
-  where
-    differ : _≡_ {A = ℕ} 0 1 → ⊥
-    differ e = omega arith
-byteOf-injective B A e = absurd (differ e)
-  where
-    differ : _≡_ {A = ℕ} 1 0 → ⊥
-    differ e = omega arith
-byteOf-injective B B e = refl
+-- byte 0 says A, and every other byte B
+pub byte-a : (b : ℕ) → b ≡ 0 → stepOf b ≡ A
+byte-a b e = ap stepOf e
 
--- what two lists have in common where they are equal
-heads : {x y : ℕ} {l k : List ℕ} → x ∷ l ≡ y ∷ k → x ≡ y
-heads e = cc
+pub byte-b : (b : ℕ) → (b ≡ 0 → ⊥) → stepOf b ≡ B
+byte-b zero n = absurd (n refl)
+byte-b (suc b) n = refl
 
-tails : {x y : ℕ} {l k : List ℕ} → x ∷ l ≡ y ∷ k → l ≡ k
-tails e = cc
-
-not-empty : {x : ℕ} {l : List ℕ} → [] ≡ x ∷ l → ⊥
-not-empty e = let z : _≡_ {A = ℕ} 0 1 = cc in omega arith
+pub steps-bytes : (s : List Step) → stepsOf (bytes s) ≡ s
+steps-bytes [] = refl
+steps-bytes (A ∷ s) = ap (λ (t : List Step). A ∷ t) (steps-bytes s)
+steps-bytes (B ∷ s) = ap (λ (t : List Step). B ∷ t) (steps-bytes s)
 
 pub bytes-injective : (s t : List Step) → bytes s ≡ bytes t → s ≡ t
-bytes-injective [] [] e = refl
-bytes-injective [] (y ∷ t) e = absurd (not-empty e)
-bytes-injective (x ∷ s) [] e = absurd (not-empty (sym e))
-bytes-injective (x ∷ s) (y ∷ t) e = ap₂ _∷_ (byteOf-injective x y (heads e)) (bytes-injective s t (tails e))
+bytes-injective s t e = sym (steps-bytes s) ∙ ap stepsOf e ∙ steps-bytes t
+
+pub strip-steps : {m n : ℕ} {l : List ℕ} (s : IsStrip m n l) → s .steps ≡ stepsOf l
+strip-steps s = sym (steps-bytes (s .steps)) ∙ ap stepsOf (sym (s .written))
+
+pub steps-strip : {m n : ℕ} {l : List ℕ} → IsStrip m n l → Strip m n (stepsOf l)
+steps-strip {m} {n} s = subst (Strip m n) (strip-steps s) (s .strip)
 
 -- the bytes of a strip say its steps
 pub same-steps : {m n : ℕ} {l : List ℕ} (p q : IsStrip m n l) → p .steps ≡ q .steps
@@ -59,23 +54,22 @@ pub record Goes (t s : List Step) (x : Step) : Type 0 where
   pub rest : List Step
   pub parts : t ≡ s ++ x ∷ rest
 
-go-on : (t s : List Step) (x : Step) (k : ℕ) → take k (bytes t) ≡ bytes s → k < length (bytes t) → getD (bytes t) k 0 ≡ byteOf x
-    → Goes t s x
-go-on [] s x k e h d = absurd (none k h)
-  where
-    none : (k : ℕ) → k < 0 → ⊥
-    none k h = omega arith
-go-on (y ∷ t) [] x zero e h d = record { rest = t; parts = ap (λ (z : Step). z ∷ t) (byteOf-injective y x d) }
-go-on (y ∷ t) (z ∷ s) x zero e h d = absurd (not-empty e)
-go-on (y ∷ t) [] x (suc k) e h d = absurd (not-empty (sym e))
-go-on (y ∷ t) (z ∷ s) x (suc k) e h d =
-    let r : Goes t s x = go-on t s x k (tails e) (omega arith) d in
-    record { rest = r .rest; parts = ap₂ _∷_ (byteOf-injective y z (heads e)) (r .parts) }
+steps-append : (l k : List ℕ) → stepsOf (l ++ k) ≡ stepsOf l ++ stepsOf k
+steps-append l k = map-append stepOf l k
 
--- the same of bytes that are known to be t's
+step-byte : (x : Step) → stepOf (byteOf x) ≡ x
+step-byte A = refl
+step-byte B = refl
+
 pub goes-on : (l : List ℕ) (t s : List Step) (x : Step) (k : ℕ) → l ≡ bytes t → take k l ≡ bytes s → k < length l → getD l k 0 ≡ byteOf x
     → Goes t s x
-goes-on l t s x k e = rw e (go-on t s x k)
+goes-on l t s x k e f h d = record {
+  rest = stepsOf (drop (suc k) l);
+  parts =
+      sym (steps-bytes t) ∙ ap stepsOf (sym e ∙ sym (take-append-drop k l) ∙ ap₂ _++_ f (drop-cons l k 0 h))
+      ∙ steps-append (bytes s) (getD l k 0 ∷ drop (suc k) l)
+      ∙ ap₂ (λ (u : List Step) (y : Step). u ++ y ∷ stepsOf (drop (suc k) l)) (steps-bytes s) (ap stepOf d ∙ step-byte x);
+}
 
 -- ---- by numbers
 

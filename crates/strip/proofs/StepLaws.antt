@@ -12,12 +12,12 @@ use Rattle.whole.specs.Between.{Within}
 use Rattle.whole.proofs.Machine.{Holds, held, from, plus}
 use Rattle.ways.specs.Strip.{A, B, stepsA, stepsB}
 use Rattle.trace.specs.Faults.{Accepted}
-use Rattle.trace.specs.Pair.{Pair}
+use Rattle.trace.specs.Pair.{Pair, PairCounts}
 use Rattle.trace.proofs.PointLaws.{accepted-x, accepted-y}
 use Rattle.strip.specs.declared.Point.{Point}
 use Rattle.strip.specs.declared.Walked.{Walked}
 use Rattle.strip.specs.Worth.{worthA, worthB}
-use Rattle.strip.specs.Walk.{PointIs, Fair, Sides, wayWorth, Stepped, by, full}
+use Rattle.strip.specs.Walk.{PointIs, Fair, wayWorth, Stepped, by, full}
 use Rattle.strip.proofs.WorthLaws.{turn-within, worthA-within, worthB-within}
 
 -- ---- points, and what the way between two is worth
@@ -43,7 +43,7 @@ read-way o p q e =
 
 -- ---- what a step gains
 
-pub turned : {a b : List ℤ} {m n : ℕ} → Sides a b m n → Sides b a n m
+pub turned : {a b : List ℤ} {m n : ℕ} → PairCounts a b m n → PairCounts b a n m
 turned f = record { pair = record { lower = f .pair .upper; upper = f .pair .lower }; countA = f .countB; countB = f .countA }
 
 pub gained-lower : {a b : List ℤ} {v : ℤ} → Pair a b → (i j : ℕ) → v ≡ wayWorth a i (i + 1) b j
@@ -65,7 +65,7 @@ added b h = plus (held w64 (from refl b) tt) (held w64 h tt)
 
 -- ---- by which byte
 
-module _ {a b : List ℤ} {m n byte : ℕ} {s r : Walked} (f : Sides a b m n) (ok : s .ok ≡ true) where
+module _ {a b : List ℤ} {m n byte : ℕ} {s r : Walked} (f : PairCounts a b m n) (ok : s .ok ≡ true) where
   pub full-lower : byte ≡ 0 → r .ok ≡ false → s .i ≡ m → Stepped a b s byte r
   unfolding stepsA
   full-lower z n e = rw z (full A ok n (λ q. omega (arith, q .inA, e, f .countA)))

@@ -3,7 +3,7 @@
 use mathlib.Core.Path.{_≡_}
 use mathlib.Core.Bool.{cond}
 use mathlib.Core.List.{List, [], _∷_, map}
-use Prim.Native.Nat.{ℕ, suc, _≤_, _<_}
+use Prim.Native.Nat.{ℕ, zero, suc, _≤_, _<_}
 use lib.Dec.{eqb}
 use lib.ListN.{length, getD}
 use Rattle.ways.specs.Strip.{Step, A, B, Strip}
@@ -14,6 +14,14 @@ byteOf B = 1
 
 abbrev pub bytes : List Step → List ℕ
 bytes s = map byteOf s
+
+-- the steps that bytes say
+abbrev pub stepOf : ℕ → Step
+stepOf zero = A
+stepOf (suc n) = B
+
+abbrev pub stepsOf : List ℕ → List Step
+stepsOf l = map stepOf l
 
 -- bytes that are a strip of m steps A and n steps B
 pub record IsStrip (m n : ℕ) (l : List ℕ) : Type 0 where

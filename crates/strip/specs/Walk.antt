@@ -10,7 +10,7 @@ use Rattle.fault.specs.declared.Fault.the-variants.{Strip}
 use Rattle.ways.specs.Strip.{Step, A, B, stepsA, stepsB}
 use Rattle.ways.specs.Value.{Worths}
 use Rattle.trace.specs.Points.{count, px, py}
-use Rattle.trace.specs.Pair.{at, Pair}
+use Rattle.trace.specs.Pair.{at, PairCounts}
 use Rattle.strip.specs.declared.Point.{Point}
 use Rattle.strip.specs.declared.Walked.{Walked}
 use Rattle.strip.specs.declared.Valued.{Valued}
@@ -38,15 +38,9 @@ pub record Fair (p : Point) : Type 0 where
   pub x : Within 100000 (p .x)
   pub y : Within 100000 (p .y)
 
--- two accepted traces of m and n points
-pub record Sides (a b : List ℤ) (m n : ℕ) : Type 0 where
-  pub pair : Pair a b
-  pub countA : m ≡ count a
-  pub countB : n ≡ count b
-
 -- points of two accepted traces: two of the one, and one of the other
 pub record Beside (own : List ℤ) (m from to : ℕ) (other : List ℤ) (n k : ℕ) : Type 0 where
-  pub sides : Sides own other m n
+  pub sides : PairCounts own other m n
   pub inFrom : from ≤ m
   pub inTo : to ≤ m
   pub inOther : k ≤ n

@@ -4,8 +4,9 @@ ghost use mathlib.Core.Bool.{false};
 ghost use Prim.Native.Nat.{_+_, _*_, _<_};
 ghost use lib.IntN.{pos, _-ℤ_, _*ℤ_};
 ghost use lib.ListN.{length, getD};
+ghost use Rattle.trace.specs.Pair.{PairCounts};
 ghost use Rattle.strip.specs.Judging.{StripJudged};
-ghost use Rattle.strip.specs.Walk.{Reached, PointIs, Fair, Sides, Beside, wayWorth, Ready, Stepped, Along, answered};
+ghost use Rattle.strip.specs.Walk.{Reached, PointIs, Fair, Beside, wayWorth, Ready, Stepped, Along, answered};
 use fault::Fault;
 use fault::Refusal;
 use trace::Judgement;
@@ -115,7 +116,7 @@ fn lost() -> Walked
 
 // One byte more. A side that has all its steps takes no other, so that no point is read beyond the first written again.
 fn step(a: &[i32], b: &[i32], m: usize, n: usize, so_far: Walked, byte: u8) -> Walked
-    requires { ⌜ Sides (now a) (now b) m n × Ready m n «so_far» ⌝ }
+    requires { ⌜ PairCounts (now a) (now b) m n × Ready m n «so_far» ⌝ }
     ensures { λ r. ⌜ Stepped (now (a .entry)) (now (b .entry)) «so_far» byte r ⌝ }
 {
     if !so_far.ok {
@@ -154,7 +155,7 @@ fn step(a: &[i32], b: &[i32], m: usize, n: usize, so_far: Walked, byte: u8) -> W
 
 // The whole strip, each byte once. It goes on where it is no strip any more: that costs nothing worth a second way out.
 fn walk(a: &[i32], b: &[i32], m: usize, n: usize, strip: &[u8]) -> Walked
-    requires { ⌜ Sides (now a) (now b) m n ⌝ }
+    requires { ⌜ PairCounts (now a) (now b) m n ⌝ }
     ensures { λ r. ⌜ Along (now (a .entry)) (now (b .entry)) (now (strip .entry)) (length (now (strip .entry))) r ⌝ }
 {
     let mut so_far = Walked {

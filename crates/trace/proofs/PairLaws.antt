@@ -3,7 +3,7 @@
 use mathlib.Core.Path.{_≡_, refl, sym, ap, _∙_}
 use mathlib.Core.Logic.{_⊎_, inl, inr}
 use mathlib.Core.List.{List}
-use Prim.Native.Nat.{ℕ}
+use Prim.Native.Nat.{ℕ, _≤_}
 use native.Mathlib.Omega.{arith}
 use lib.IntN.{ℤ}
 use Rattle.fault.specs.declared.Fault.{Fault}
@@ -13,7 +13,7 @@ use Rattle.trace.specs.declared.Judgement.the-variants.{Fit, Unfit}
 use Rattle.trace.specs.Points.{count, twiceArea}
 use Rattle.trace.specs.Faults.{Accepted}
 use Rattle.trace.specs.Judged.{judged}
-use Rattle.trace.specs.Pair.{at, refusalOf, Pair, PairRefused, lower, upper}
+use Rattle.trace.specs.Pair.{at, refusalOf, Pair, PairCounts, PairRefused, lower, upper}
 use Rattle.trace.proofs.Exact.{fit-exactly}
 
 -- an accepted trace is not refused
@@ -74,11 +74,17 @@ counts {c} {area = area} {n = n} p q =
     let e = fit-exactly c area n .0 (sym p ∙ q) in
     record { accepted = e .0; counted = e .2 }
 
--- both are accepted, and m and n are the numbers of their points
-pub record PairCounts (a b : List ℤ) (m n : ℕ) : Type 0 where
-  pub pair : Pair a b
-  pub countA : m ≡ count a
-  pub countB : n ≡ count b
-
+-- both are, so they are a pair with these numbers of points
 pub pair-counts : {a b : List ℤ} {m n : ℕ} → Counts a m → Counts b n → PairCounts a b m n
 pair-counts x y = record { pair = record { lower = x .accepted; upper = y .accepted }; countA = x .counted; countB = y .counted }
+
+-- 3 to 250 each
+pub few-points : {a b : List ℤ} {m n : ℕ} → PairCounts a b m n → (3 ≤ m) × (m ≤ 250) × (3 ≤ n) × (n ≤ 250)
+few-points p =
+    let l = p .pair .lower in
+    let u = p .pair .upper in (
+      omega (arith, p .countA, l .enough),
+      omega (arith, p .countA, l .notMany),
+      omega (arith, p .countB, u .enough),
+      omega (arith, p .countB, u .notMany),
+    )

@@ -10,6 +10,7 @@ use lib.IntN.{ℤ, pos, negsuc, _-ℤ_, _*ℤ_}
 use lib.Signed.{leZ}
 use lib.ListN.{length, getD}
 use Rattle.whole.specs.Between.{Within}
+use Rattle.whole.specs.Tells.{Tells}
 use Rattle.whole.proofs.Order.{leZ-true, le-leZ}
 use Rattle.whole.proofs.Bounds.{between-wider, between-sub, between-mul, sum-within}
 use Rattle.whole.proofs.TestLaws.{and-true, true≢false}
@@ -51,6 +52,10 @@ range-within z e =
 pub within-range : (z : ℤ) → Within 100000 z → inRange z ≡ true
 unfolding inRange
 within-range z b = ap (λ (t : Bool). t && leZ z (pos 100000)) (le-leZ (b .low)) ∙ le-leZ (b .high)
+
+-- so a test of the range tells it
+pub range-tells : (z : ℤ) {r : Bool} → r ≡ inRange z → Tells (Within 100000 z) r
+range-tells z e = record { yes = λ t. range-within z (sym e ∙ t); when = λ w. e ∙ within-range z w }
 
 -- a·d - e·b of four numbers in range
 pub cross-within : {a b d e : ℤ} → Within 100000 a → Within 100000 b → Within 100000 d → Within 100000 e

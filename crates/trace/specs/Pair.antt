@@ -9,6 +9,7 @@ use Rattle.fault.specs.declared.Refusal.{Refusal}
 use Rattle.fault.specs.declared.Fault.the-variants.{Shape}
 use Rattle.trace.specs.declared.Judgement.{Judgement}
 use Rattle.trace.specs.declared.Judgement.the-variants.{Fit, Unfit}
+use Rattle.trace.specs.Points.{count}
 use Rattle.trace.specs.Faults.{Accepted}
 use Rattle.trace.specs.Judged.{judged}
 
@@ -30,3 +31,9 @@ pub data PairRefused (a b : List ℤ) : Refusal → Type 0 where
 pub record Pair (a b : List ℤ) : Type 0 where
   pub lower : Accepted a
   pub upper : Accepted b
+
+-- with the numbers of their points
+pub record PairCounts (a b : List ℤ) (m n : ℕ) : Type 0 where
+  pub pair : Pair a b
+  pub countA : m ≡ count a
+  pub countB : n ≡ count b

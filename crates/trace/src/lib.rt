@@ -73,8 +73,8 @@ fn point_at(coords: &[i32], k: usize) -> Point
     }
 }
 
-// Whether a number is from -100,000 to 100,000.
-fn in_range(v: i32) -> bool
+// Whether a coordinate, or a plane, is from -100,000 to 100,000.
+pub fn in_range(v: i32) -> bool
     ensures { λ r. ⌜ r ≡ inRange v ⌝ }
 {
     (-100_000 <= v) & (v <= 100_000)

@@ -3,15 +3,14 @@
 -- The idea: `Tight` bounds the value of every strip by the index of its last pair, and says which strips attain it: those all
 -- of whose steps pass. The traced one does. Assumes nothing.
 use mathlib.Core.Path.{_≡_, refl, sym, _∙_}
-use mathlib.Core.Logic.{_⊎_, inl, inr}
 use mathlib.Core.List.{List, [], _∷_, _++_}
 use Prim.Native.Nat.{ℕ, suc, _+_}
 use native.Mathlib.Nat.{add-zero, zero-add}
 use native.Mathlib.Omega.{arith}
 use lib.ListN.{length}
 use lib.IntN.{pos, _+ℤ_, +ℤ-assoc, +ℤ-idl, +ℤ-idr}
-use lib.Signed.{_≤ℤ_, _<ℤ_}
-use Rattle.whole.proofs.Order.{≤ℤ-trans, ≤ℤ-antisym, ≡→≤ℤ, ≤ℤ-or->}
+use lib.Signed.{_≤ℤ_}
+use Rattle.whole.proofs.Order.{≤ℤ-trans, ≤ℤ-antisym, ≡→≤ℤ}
 use Rattle.ways.specs.Strip.{Step, A, B, stepsA, stepsB, Strip}
 use Rattle.ways.specs.Value.{Worths, value, valueFrom}
 use Rattle.ways.specs.Best.{Best}
@@ -69,13 +68,6 @@ pub best-value : (w : Worths) {m n : ℕ} {s : List Step} → Best (Strip m n) (
 best-value w {m} {n} b =
     let a = attained w m n in
     ≤ℤ-antisym (greatest w (b .is)) (≤ℤ-trans (≡→≤ℤ (sym (a .1))) (b .greatest (traced w m n) (a .0)))
-
-pub below-top : (w : Worths) {m n : ℕ} {s : List Step} → Strip m n s → (value w s ≡ top w m n → ⊥) → value w s <ℤ top w m n
-below-top w {m} {n} {s} r differ = go (≤ℤ-or-> (top w m n) (value w s))
-  where
-    go : (top w m n ≤ℤ value w s) ⊎ (value w s <ℤ top w m n) → value w s <ℤ top w m n
-    go (inl h) = absurd (differ (≤ℤ-antisym (greatest w r) h))
-    go (inr h) = h
 
 -- ---- best strips are the tight ones
 

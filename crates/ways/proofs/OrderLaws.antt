@@ -103,13 +103,6 @@ before-total (x ∷ s) (y ∷ t) e = go x y (before-total s t (omega arith))
     go x y (inr (inl b)) = inr (inl (before-cons x y b))
     go x y (inr (inr b)) = inr (inr (before-cons y x b))
 
-pub before-length : {s t : List Step} → Before s t → length s ≡ length t
-before-length b = go (earlier b)
-  where
-    go : {s t : List Step} → Earlier s t → length s ≡ length t
-    go here = refl
-    go (there e) = ap suc (go e)
-
 -- the same ending
 pub before-append : {s t : List Step} (z : List Step) → Before s t → Before (s ++ z) (t ++ z)
 before-append z b = before (go (earlier b))

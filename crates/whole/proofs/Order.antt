@@ -79,9 +79,6 @@ of-T : (b : Bool) → T b → b ≡ true
 of-T true t = refl
 of-T false t = absurd t
 
-pub lt-ltZ : {a b : ℤ} → a <ℤ b → ltZ a b ≡ true
-lt-ltZ {a} {b} h = of-T (ltZ a b) (h .lt)
-
 pub le-leZ : {a b : ℤ} → a ≤ℤ b → leZ a b ≡ true
 le-leZ {a} {b} h = of-T (leZ a b) (h .le)
 
@@ -95,9 +92,6 @@ clash {a} {b} = go a b
   where
     go : (a b : ℤ) → a <ℤ b → b ≤ℤ a → ⊥
     go a b = simp zsum (simp znat (omega arith))
-
-pub le-ltZ : {a b : ℤ} → b ≤ℤ a → ltZ a b ≡ false
-le-ltZ {a} {b} h = by-clash (ltZ a b) (λ e. clash (ltZ-true a b e) h)
 
 pub lt-leZ : {a b : ℤ} → b <ℤ a → leZ a b ≡ false
 lt-leZ {a} {b} h = by-clash (leZ a b) (λ e. clash h (leZ-true a b e))

@@ -8,7 +8,7 @@ use native.Mathlib.Omega.{arith}
 use lib.Dec.{eqb}
 use borrow.Author.Tests.{eqb-true, eq-eqb, not-true}
 use Rattle.whole.proofs.TestLaws.{true≢false, and-true, not-true-false}
-use Rattle.whole.specs.Lowest.{Lowest, Sought, FirstOf}
+use Rattle.whole.specs.Lowest.{Lowest, Sought, FirstPlace}
 use Rattle.whole.specs.Tells.{Tells}
 
 -- ---- tests
@@ -69,7 +69,7 @@ module _ {Good Bad : ℕ → Type 0} {n k : ℕ} (good : (j : ℕ) → j < k →
       over : {a b : ℕ} → a < b → a ≡ b → ⊥
       over h e = omega arith
 
-module _ {P : ℕ → Type 0} {n r : ℕ} (s : FirstOf P n r) where
+module _ {P : ℕ → Type 0} {n r : ℕ} (s : FirstPlace P n r) where
   pub sought-lowest : r < n → Lowest P n r
   sought-lowest h = record { below = h; here = s .here h; none = s .passed }
 

@@ -91,10 +91,6 @@ some-yes n p k h e = go (some n p) refl
     go true s = s
     go false s = absurd (true≢false (sym e ∙ some-none n p s k h))
 
-pub some-no : (n : ℕ) (p : ℕ → Bool) → ((k : ℕ) → k < n → p k ≡ false) → some n p ≡ false
-some-no n p f = not-true-false (some n p) (λ e. let r : (k : ℕ) × (k < n) × (p k ≡ true) = some-at n p e in
-    true≢false (sym (r .2) ∙ f (r .0) (r .1)))
-
 -- tests and sums that agree below n agree as wholes
 pub some-same : (n : ℕ) (p q : ℕ → Bool) → ((k : ℕ) → k < n → p k ≡ q k) → some n p ≡ some n q
 unfolding some

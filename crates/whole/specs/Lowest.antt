@@ -14,5 +14,5 @@ pub record Sought (Good Bad : ℕ → Type 0) (n r : ℕ) : Type 0 where
   pub here : r < n → Bad r
 
 -- r is the lowest number below n of which P holds, or n where there is none
-abbrev pub FirstOf : (ℕ → Type 0) → ℕ → ℕ → Type 0
-FirstOf P n r = Sought (λ j. P j → ⊥) P n r
+abbrev pub FirstPlace : (ℕ → Type 0) → ℕ → ℕ → Type 0
+FirstPlace P n r = Sought (λ j. P j → ⊥) P n r

@@ -1,16 +1,15 @@
 -- `joining::best` meets its contract: each `return` is one case of the definition. Assumes nothing.
-use mathlib.Core.Path.{refl}
-use Prim.Native.Nat.{_≤_}
 use native.Mathlib.Omega.{arith}
 use mir.Syntax.{w64}
 use Rattle.whole.proofs.Machine.{read-back}
-use Rattle.trace.proofs.PairLaws.{Counts, counts, PairCounts, pair-counts, refuses-lower, refuses-upper}
+use Rattle.trace.specs.Pair.{PairCounts}
+use Rattle.trace.proofs.PairLaws.{Counts, counts, pair-counts, few-points, refuses-lower, refuses-upper}
 use Rattle.joining.specs.Answers.{pair, room}
 use Rattle.joining.proofs.CellLaws.{room-needs}
 use Rattle.joining.proofs.RowLaws.{cells-few}
 use Rattle.joining.proofs.OutlineLaws.{filled-is}
 use Rattle.joining.proofs.MarkLaws.{filled-leads}
-use Rattle.joining.proofs.BestLaws.{enough, short-strip, short-work, no-room-is, best-done}
+use Rattle.joining.proofs.BestLaws.{untouched, enough, short-strip, short-work, no-room-is, best-done}
 use borrow.Author.Needs.{needs}
 use Rattle.joining.proofs.best.Statement.{statement}
 use Rattle.joining.proofs.best.Tie as tie
@@ -29,7 +28,7 @@ refused-requires c κs = search needs
 
 returns : tie.Need-returns
 returns c =
-    pair (refuses-lower (c .before .before .before .judge .ensures) (c .before .enum-told .given .1) (c .refused .ensures)) (record { stripSame = refl; workSame = refl })
+    pair (refuses-lower (c .before .before .before .judge .ensures) (c .before .enum-told .given .1) (c .refused .ensures)) untouched
 
 -- the lower trace is accepted, and m is the number of its points
 lower : (c : tie.After-judged) → Counts (c .before .before .before .before .before .args .a .now) (c .judged .given .0 .1 .0)
@@ -51,29 +50,24 @@ returns-2 : tie.Need-returns-2
 returns-2 c =
     pair
     (refuses-upper (lower (c .before .before .before .before .before) .accepted) (c .before .before .before .judge2 .ensures) (c .before .enum-told2 .given .1) (c .refused2 .ensures))
-    (record { stripSame = refl; workSame = refl })
+    untouched
 
 -- so is the upper, and n is the number of its points
 both : (c : tie.After-known-told2)
     → PairCounts (c .before .before .before .before .before .before .before .before .before .before .args .a .now) (c .before .before .before .before .before .before .before .before .before .before .args .b .now) (c .before .before .before .before .before .judged .given .0 .1 .0) (c .before .judged2 .given .0 .1 .0)
 both c = pair-counts (lower (c .before .before .before .before .before)) (counts (c .before .before .before .judge2 .ensures) (c .before .judged2 .given .1))
 
-few : (c : tie.After-known-told2) → (c .before .before .before .before .before .judged .given .0 .1 .0 ≤ 250) × (c .before .judged2 .given .0 .1 .0 ≤ 250)
-few c =
-    let p = both c in
-    (omega (arith, p .countA, p .pair .lower .notMany), omega (arith, p .countB, p .pair .upper .notMany))
-
 add-cells : tie.Need-add-cells
-add-cells c = omega (arith, few c)
+add-cells c = omega (arith, few-points (both c))
 
 add-cells-2 : tie.Need-add-cells-2
-add-cells-2 c = omega (arith, few c)
+add-cells-2 c = omega (arith, few-points (both c))
 
 mul-cells : tie.Need-mul-cells
-mul-cells c = omega (arith, cells-few _ _ (few c .0) (few c .1))
+mul-cells c = omega (arith, cells-few _ _ (few-points (both c) .1) (few-points (both c) .3))
 
 add-if1 : tie.Need-add-if1
-add-if1 c = omega (arith, few c)
+add-if1 c = omega (arith, few-points (both c))
 
 no-room-requires : tie.Need-no-room-requires
 no-room-requires c κs = search needs
@@ -81,7 +75,7 @@ no-room-requires c κs = search needs
 returns-3 : tie.Need-returns-3
 returns-3 c =
     no-room-is (c .no-room .ensures)
-    (room (both (c .before .before) .pair) (short-strip (both (c .before .before)) (c .before .if1 .taken)) (record { stripSame = refl; workSame = refl }))
+    (room (both (c .before .before) .pair) (short-strip (both (c .before .before)) (c .before .if1 .taken)) untouched)
 
 no-room-requires-2 : tie.Need-no-room-requires-2
 no-room-requires-2 c κs = search needs
@@ -89,17 +83,17 @@ no-room-requires-2 c κs = search needs
 returns-4 : tie.Need-returns-4
 returns-4 c =
     no-room-is (c .no-room2 .ensures)
-    (room (both (c .before .before .before) .pair) (short-work (both (c .before .before .before)) (c .before .if2 .taken)) (record { stripSame = refl; workSame = refl }))
+    (room (both (c .before .before .before) .pair) (short-work (both (c .before .before .before)) (c .before .if2 .taken)) untouched)
 
 mark-all-requires : tie.Need-mark-all-requires
 mark-all-requires c κs =
     let p = both (c .before .before .before) in
-    (p .pair, p .countA, p .countB, room-needs (enough {strip = c .before .before .before .before .before .before .before .before .before .before .before .before .before .args .strip .now} {work = c .before .before .before .before .before .before .before .before .before .before .before .before .before .args .work .now} p (c .before .before .if1 .left) (c .before .if2 .left) .forWork))
+    (p, room-needs (enough {strip = c .before .before .before .before .before .before .before .before .before .before .before .before .before .args .strip .now} {work = c .before .before .before .before .before .before .before .before .before .before .before .before .before .args .work .now} p (c .before .before .if1 .left) (c .before .if2 .left) .forWork))
 
 trace-back-requires : tie.Need-trace-back-requires
 trace-back-requires c κs =
-    let f = few (c .before .before .before .before .before .before .before .before) in
-    (filled-leads (c .before .before .before .before .mark-all .ensures) (f .0) (f .1) (room-needs (c .before .before .before .before .before .before .if2 .left)), c .before .before .before .before .before .before .before .if1 .left)
+    let f = few-points (both (c .before .before .before .before .before .before .before .before)) in
+    (filled-leads (c .before .before .before .before .mark-all .ensures) (f .1) (f .3) (room-needs (c .before .before .before .before .before .before .if2 .left)), c .before .before .before .before .before .before .before .if1 .left)
 
 clear-requires : tie.Need-clear-requires
 clear-requires c κs = room-needs (omega (arith, c .before .before .before .before .before .before .before .before .mark-all .ensures .long, c .before .before .before .before .before .before .before .before .before .before .if2 .left))

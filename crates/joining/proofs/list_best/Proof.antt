@@ -1,15 +1,16 @@
 -- `joining::list_best` meets its contract: each `return` is one case of the definition. Assumes nothing.
-use mathlib.Core.Path.{refl}
 use Prim.Native.Nat.{_+_, _*_, _≤_}
 use native.Mathlib.Omega.{arith}
 use lib.ListN.{length}
 use mir.Syntax.{w64}
 use Rattle.whole.proofs.Machine.{read-back}
-use Rattle.trace.proofs.PairLaws.{Counts, counts, PairCounts, pair-counts, refuses-lower, refuses-upper}
+use Rattle.trace.specs.Pair.{PairCounts}
+use Rattle.trace.proofs.PairLaws.{Counts, counts, pair-counts, few-points, refuses-lower, refuses-upper}
 use Rattle.joining.specs.Listing.{pair, room}
 use Rattle.joining.proofs.CellLaws.{room-needs}
 use Rattle.joining.proofs.RowLaws.{cells-few}
 use Rattle.joining.proofs.OutlineLaws.{filled-is}
+use Rattle.joining.proofs.BestLaws.{untouched}
 use Rattle.joining.proofs.ListLaws.{refused-as, lines-fit, lines-short, enough-lines, short-lines, short-marks, list-done}
 use borrow.Author.Needs.{needs}
 use Rattle.joining.proofs.list_best.Statement.{statement}
@@ -28,7 +29,7 @@ refused-requires : tie.Need-refused-requires
 refused-requires c κs = search needs
 
 returns : tie.Need-returns
-returns c = pair (refuses-lower (c .before .before .before .judge .ensures) (c .before .enum-told .given .1) (c .refused .ensures)) (record { stripSame = refl; workSame = refl })
+returns c = pair (refuses-lower (c .before .before .before .judge .ensures) (c .before .enum-told .given .1) (c .refused .ensures)) untouched
 
 -- the lower trace is accepted, and m is the number of its points
 lower : (c : tie.After-judged) → Counts (c .before .before .before .before .before .args .a .now) (c .judged .given .0 .1 .0)
@@ -50,40 +51,31 @@ returns-2 : tie.Need-returns-2
 returns-2 c =
     pair
     (refuses-upper (lower (c .before .before .before .before .before) .accepted) (c .before .before .before .judge2 .ensures) (c .before .enum-told2 .given .1) (c .refused2 .ensures))
-    (record { stripSame = refl; workSame = refl })
+    untouched
 
 -- so is the upper, and n is the number of its points
 both : (c : tie.After-known-told2)
     → PairCounts (c .before .before .before .before .before .before .before .before .before .before .args .a .now) (c .before .before .before .before .before .before .before .before .before .before .args .b .now) (c .before .before .before .before .before .judged .given .0 .1 .0) (c .before .judged2 .given .0 .1 .0)
 both c = pair-counts (lower (c .before .before .before .before .before)) (counts (c .before .before .before .judge2 .ensures) (c .before .judged2 .given .1))
 
-few : (c : tie.After-known-told2)
-    → (c .before .before .before .before .before .judged .given .0 .1 .0 ≤ 250) × (c .before .judged2 .given .0 .1 .0 ≤ 250) × (1 ≤ c .before .before .before .before .before .judged .given .0 .1 .0)
-few c =
-    let p = both c in (
-      omega (arith, p .countA, p .pair .lower .notMany),
-      omega (arith, p .countB, p .pair .upper .notMany),
-      omega (arith, p .countA, p .pair .lower .enough),
-    )
-
 add-cells : tie.Need-add-cells
-add-cells c = omega (arith, few c)
+add-cells c = omega (arith, few-points (both c))
 
 add-cells-2 : tie.Need-add-cells-2
-add-cells-2 c = omega (arith, few c)
+add-cells-2 c = omega (arith, few-points (both c))
 
 mul-cells : tie.Need-mul-cells
-mul-cells c = omega (arith, cells-few _ _ (few c .0) (few c .1))
+mul-cells c = omega (arith, cells-few _ _ (few-points (both c) .1) (few-points (both c) .3))
 
 add-if1 : tie.Need-add-if1
-add-if1 c = omega (arith, few c)
+add-if1 c = omega (arith, few-points (both c))
 
 div-if1 : tie.Need-div-if1
-div-if1 c = omega (arith, few c)
+div-if1 c = omega (arith, few-points (both c))
 
 -- the room for the lines, from the quotient
 fits : (c : tie.Else1) → c .before .before .before .before .before .before .before .before .before .before .before .args .limit * (c .before .before .before .before .before .before .judged .given .0 .1 .0 + c .before .before .judged2 .given .0 .1 .0) ≤ length (c .before .before .before .before .before .before .before .before .before .before .before .args .lines .now)
-fits c = lines-fit _ _ (c .before .before .before .before .before .before .before .before .before .before .before .args .limit) (omega (arith, few (c .before))) (c .if1 .left)
+fits c = lines-fit _ _ (c .before .before .before .before .before .before .before .before .before .before .before .args .limit) (omega (arith, few-points (both (c .before)))) (c .if1 .left)
 
 no-lines-requires : tie.Need-no-lines-requires
 no-lines-requires c κs = search needs
@@ -91,25 +83,25 @@ no-lines-requires c κs = search needs
 returns-3 : tie.Need-returns-3
 returns-3 c =
     refused-as (c .no-lines .ensures)
-    (room (both (c .before .before) .pair) (short-lines (both (c .before .before)) (lines-short _ _ _ (omega (arith, few (c .before .before))) (c .before .if1 .taken))) (record { stripSame = refl; workSame = refl }))
+    (room (both (c .before .before) .pair) (short-lines (both (c .before .before)) (lines-short _ _ _ (omega (arith, few-points (both (c .before .before)))) (c .before .if1 .taken))) untouched)
 
 no-lines-requires-2 : tie.Need-no-lines-requires-2
 no-lines-requires-2 c κs = search needs
 
 returns-4 : tie.Need-returns-4
 returns-4 c =
-    refused-as (c .no-lines2 .ensures) (room (both (c .before .before .before) .pair) (short-marks (both (c .before .before .before)) (c .before .if2 .taken)) (record { stripSame = refl; workSame = refl }))
+    refused-as (c .no-lines2 .ensures) (room (both (c .before .before .before) .pair) (short-marks (both (c .before .before .before)) (c .before .if2 .taken)) untouched)
 
 mark-all-requires : tie.Need-mark-all-requires
 mark-all-requires c κs =
     let p = both (c .before .before .before) in
-    (p .pair, p .countA, p .countB, room-needs (enough-lines {lines = c .before .before .before .before .before .before .before .before .before .before .before .before .before .args .lines .now} {work = c .before .before .before .before .before .before .before .before .before .before .before .before .before .args .work .now} p (fits (c .before .before)) (c .before .if2 .left) .forWork))
+    (p, room-needs (enough-lines {lines = c .before .before .before .before .before .before .before .before .before .before .before .before .before .args .lines .now} {work = c .before .before .before .before .before .before .before .before .before .before .before .before .before .args .work .now} p (fits (c .before .before)) (c .before .if2 .left) .forWork))
 
 some-lines-requires : tie.Need-some-lines-requires
 some-lines-requires c κs =
-    let f = few (c .before .before .before .before .before .before .before .before) in
+    let f = few-points (both (c .before .before .before .before .before .before .before .before)) in
     let table = c .before .before .before .before .mark-all .ensures in
-    (record { w = _; before = _; value = _; filled = table }, f .2, f .0, f .1, room-needs (omega (arith, table .long, c .before .before .before .before .before .before .if2 .left)), fits (c .before .before .before .before .before .before .before))
+    (record { w = _; before = _; value = _; filled = table }, omega (arith, f), f .1, f .3, room-needs (omega (arith, table .long, c .before .before .before .before .before .before .if2 .left)), fits (c .before .before .before .before .before .before .before))
 
 clear-requires : tie.Need-clear-requires
 clear-requires c κs = room-needs (omega (arith, c .before .before .before .before .before .before .before .before .mark-all .ensures .long, c .before .before .before .before .before .before .before .before .before .before .if2 .left))

@@ -1,6 +1,6 @@
 -- `joining::next` meets its contract: each `return` is one case of the definition. Assumes nothing.
-use mathlib.Core.Path.{refl, sym, ap, ap₂, _∙_}
-use Prim.Native.Nat.{_+_, _≤_}
+use mathlib.Core.Path.{sym, ap, ap₂, _∙_}
+use Prim.Native.Nat.{_+_}
 use native.Mathlib.Omega.{arith}
 use lib.IntN.{ℤ}
 use lib.Seq.{length-take-le}
@@ -8,12 +8,13 @@ use lib.Signed.{ltZ}
 use mir.Syntax.{w64}
 use mir.Val.{toZ, ofZ}
 use Rattle.whole.proofs.Machine.{read-back}
-use Rattle.trace.proofs.PairLaws.{Counts, counts, PairCounts, pair-counts, refuses-lower, refuses-upper}
+use Rattle.trace.specs.Pair.{PairCounts}
+use Rattle.trace.proofs.PairLaws.{Counts, counts, pair-counts, few-points, refuses-lower, refuses-upper}
 use Rattle.joining.specs.Answers.{Enough, pair, room, noStrip}
 use Rattle.joining.proofs.CellLaws.{room-needs}
 use Rattle.joining.proofs.RowLaws.{cells-few}
 use Rattle.joining.proofs.OutlineLaws.{filled-is}
-use Rattle.joining.proofs.BestLaws.{enough, short-strip, short-work}
+use Rattle.joining.proofs.BestLaws.{untouched, enough, short-strip, short-work}
 use Rattle.joining.proofs.NextLaws.{filled-marked}
 use Rattle.joining.proofs.FollowLaws.{turned-as, value-back, refused-is, not-handed, Handed, handed, below-is, next-done, none-done}
 use borrow.Author.Needs.{needs}
@@ -33,7 +34,7 @@ refused-requires : tie.Need-refused-requires
 refused-requires c κs = search needs
 
 returns : tie.Need-returns
-returns c = pair (refuses-lower (c .before .before .before .judge .ensures) (c .before .enum-told .given .1) (c .refused .ensures)) (record { stripSame = refl; workSame = refl })
+returns c = pair (refuses-lower (c .before .before .before .judge .ensures) (c .before .enum-told .given .1) (c .refused .ensures)) untouched
 
 -- the lower trace is accepted, and m is the number of its points
 lower : (c : tie.After-judged) → Counts (c .before .before .before .before .before .args .a .now) (c .judged .given .0 .1 .0)
@@ -55,47 +56,42 @@ returns-2 : tie.Need-returns-2
 returns-2 c =
     pair
     (refuses-upper (lower (c .before .before .before .before .before) .accepted) (c .before .before .before .judge2 .ensures) (c .before .enum-told2 .given .1) (c .refused2 .ensures))
-    (record { stripSame = refl; workSame = refl })
+    untouched
 
 -- so is the upper, and n is the number of its points
 both : (c : tie.After-known-told2)
     → PairCounts (c .before .before .before .before .before .before .before .before .before .before .args .a .now) (c .before .before .before .before .before .before .before .before .before .before .args .b .now) (c .before .before .before .before .before .judged .given .0 .1 .0) (c .before .judged2 .given .0 .1 .0)
 both c = pair-counts (lower (c .before .before .before .before .before)) (counts (c .before .before .before .judge2 .ensures) (c .before .judged2 .given .1))
 
-few : (c : tie.After-known-told2) → (c .before .before .before .before .before .judged .given .0 .1 .0 ≤ 250) × (c .before .judged2 .given .0 .1 .0 ≤ 250)
-few c =
-    let p = both c in
-    (omega (arith, p .countA, p .pair .lower .notMany), omega (arith, p .countB, p .pair .upper .notMany))
-
 -- the room lent is enough
 roomy : (c : tie.Else2) → Enough (c .before .before .before .before .before .before .before .before .before .before .before .before .args .a .now) (c .before .before .before .before .before .before .before .before .before .before .before .before .args .b .now) (c .before .before .before .before .before .before .before .before .before .before .before .before .args .strip .now) (c .before .before .before .before .before .before .before .before .before .before .before .before .args .work .now)
 roomy c = enough (both (c .before .before)) (c .before .if1 .left) (c .if2 .left)
 
 add-steps : tie.Need-add-steps
-add-steps c = omega (arith, few c)
+add-steps c = omega (arith, few-points (both c))
 
 add-cells : tie.Need-add-cells
-add-cells c = omega (arith, few c)
+add-cells c = omega (arith, few-points (both c))
 
 add-cells-2 : tie.Need-add-cells-2
-add-cells-2 c = omega (arith, few c)
+add-cells-2 c = omega (arith, few-points (both c))
 
 mul-cells : tie.Need-mul-cells
-mul-cells c = omega (arith, cells-few _ _ (few c .0) (few c .1))
+mul-cells c = omega (arith, cells-few _ _ (few-points (both c) .1) (few-points (both c) .3))
 
 refusal-requires : tie.Need-refusal-requires
 refusal-requires c κs = search needs
 
 returns-3 : tie.Need-returns-3
 returns-3 c =
-    refused-is (c .refusal .ensures) (room (both (c .before .before) .pair) (short-strip (both (c .before .before)) (c .before .if1 .taken)) (record { stripSame = refl; workSame = refl }))
+    refused-is (c .refusal .ensures) (room (both (c .before .before) .pair) (short-strip (both (c .before .before)) (c .before .if1 .taken)) untouched)
 
 refusal-requires-2 : tie.Need-refusal-requires-2
 refusal-requires-2 c κs = search needs
 
 returns-4 : tie.Need-returns-4
 returns-4 c =
-    refused-is (c .refusal2 .ensures) (room (both (c .before .before .before) .pair) (short-work (both (c .before .before .before)) (c .before .if2 .taken)) (record { stripSame = refl; workSame = refl }))
+    refused-is (c .refusal2 .ensures) (room (both (c .before .before .before) .pair) (short-work (both (c .before .before .before)) (c .before .if2 .taken)) untouched)
 
 slice-reshare-prefix-judge-strip : tie.Need-slice-reshare-prefix-judge-strip
 slice-reshare-prefix-judge-strip c = search needs
@@ -123,7 +119,7 @@ returns-5 : tie.Need-returns-5
 returns-5 c =
     let p = both (c .before .before .before .before .before .before .before) in
     refused-is (c .refusal3 .ensures)
-    (noStrip (p .pair) (roomy (c .before .before .before .before .before)) (not-handed (c .before .before .before .before .before .before .before .before .before .before .before .before .before .before .before .before .before .args .strip .now) p (c .before .before .before .judge-strip .ensures) (c .before .enum-told3 .given .1)) (record { stripSame = refl; workSame = refl }))
+    (noStrip (p .pair) (roomy (c .before .before .before .before .before)) (not-handed (c .before .before .before .before .before .before .before .before .before .before .before .before .before .before .before .before .before .args .strip .now) p (c .before .before .before .judge-strip .ensures) (c .before .enum-told3 .given .1)) untouched)
 
 -- the strip handed in, with its value
 given : (c : tie.After-handed-in)
@@ -140,7 +136,7 @@ slice-aggregate-mark-all c = search needs
 mark-all-requires : tie.Need-mark-all-requires
 mark-all-requires c κs =
     let p = both (c .before .before .before .before .before .before .before .before .before) in
-    (p .pair, p .countA, p .countB, room-needs (omega (arith, cells-few _ _ (p .pair .lower .notMany) (p .pair .upper .notMany), c .before .no-marks .ensures)))
+    (p, room-needs (omega (arith, cells-few _ _ (p .pair .lower .notMany) (p .pair .upper .notMany), c .before .no-marks .ensures)))
 
 refusal-requires-4 : tie.Need-refusal-requires-4
 refusal-requires-4 c κs = search needs
@@ -158,8 +154,8 @@ slice-aggregate-turn c = search needs
 
 turn-requires : tie.Need-turn-requires
 turn-requires c κs =
-    let f = few (c .before .before .before .before .before .before .before .before .before .before .before .before .before .before) in
-    (filled-marked (c .before .before .before .before .mark-all .ensures) (f .0) (f .1) (room-needs (omega (arith, cells-few _ _ (f .0) (f .1), c .before .before .before .before .before .before .no-marks .ensures))), c .before .before .before .before .before .before .before .before .before .before .before .before .before .if1 .left, given (c .before .before .before .before .before .before .before .before) .strip)
+    let f = few-points (both (c .before .before .before .before .before .before .before .before .before .before .before .before .before .before)) in
+    (filled-marked (c .before .before .before .before .mark-all .ensures) (f .1) (f .3) (room-needs (omega (arith, cells-few _ _ (f .1) (f .3), c .before .before .before .before .before .before .no-marks .ensures))), c .before .before .before .before .before .before .before .before .before .before .before .before .before .if1 .left, given (c .before .before .before .before .before .before .before .before) .strip)
 
 clear-requires : tie.Need-clear-requires
 clear-requires c κs = room-needs (c .before .before .before .before .before .before .before .before .before .before .before .before .before .before .before .before .if2 .left)

@@ -1,13 +1,11 @@
 -- `listing::answer` meets its contract: TEXT, or what is said of the pair that was read. Assumes nothing.
-use mathlib.Core.Path.{_≡_, refl, ap₂, _∙_, subst}
-use lib.IntN.{ℤ}
+use mathlib.Core.Path.{refl}
 use mir.Syntax.{w32}
-use mir.Val.{toZ, ofZ}
 use Rattle.whole.proofs.Machine.{read-back}
 use Rattle.fault.specs.declared.Fault.the-variants.{Text}
 use Rattle.trace.specs.Pair.{at}
 use Rattle.listing.specs.Asked.{reads}
-use Rattle.listing.specs.Listing.{refusal, PairListing, unread, read}
+use Rattle.listing.specs.Listing.{refusal, unread, read}
 use Rattle.listing.proofs.ReadLaws.{asked-text, AskedFor, asked-pair}
 use borrow.Author.Needs.{needs}
 use Rattle.listing.proofs.answer.Statement.{statement}

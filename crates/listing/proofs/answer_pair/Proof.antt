@@ -1,10 +1,8 @@
 -- `listing::answer_pair` meets its contract: each `return` is one case of the definition. Assumes nothing.
-use mathlib.Core.Path.{_≡_, refl, sym, ap₂, _∙_, subst}
-use mathlib.Core.List.{List}
+use mathlib.Core.Path.{sym, subst}
 use Prim.Native.Nat.{_*_}
 use native.Mathlib.Omega.{arith}
 use lib.IntN.{ℤ}
-use lib.ListN.{take}
 use lib.Seq.{length-take-le}
 use mir.Syntax.{w32, w64}
 use Rattle.whole.specs.Between.{Within}
@@ -13,7 +11,7 @@ use Rattle.fault.specs.declared.Fault.the-variants.{Planes}
 use Rattle.trace.specs.Pair.{at}
 use Rattle.trace.proofs.PairLaws.{refuses-lower, refuses-upper}
 use Rattle.listing.specs.Listing.{refusal, BestLines, traces, planes, best}
-use Rattle.listing.specs.Telling.{Told, Kept}
+use Rattle.listing.specs.Telling.{Kept}
 use Rattle.listing.specs.Pairs.{PlanesAnswer}
 use Rattle.listing.proofs.TellLaws.{Fitted, fitted, both, both-here, areas, planes-back, planes-wrong, planes-rise, height}
 use borrow.Author.Needs.{needs}

@@ -1,5 +1,4 @@
 -- `listing::listing` meets its contract: ROOM, or the whole text at the front. Assumes nothing.
-use native.Mathlib.Omega.{arith}
 use Rattle.listing.specs.Listing.{room}
 use Rattle.listing.proofs.TellLaws.{told-written}
 use borrow.Author.Needs.{needs}

@@ -1,6 +1,5 @@
 -- `pair_rows::tell_bytes` is safe and ends. Assumes nothing.
-use mathlib.Core.Path.{_≡_, sym}
-use Prim.Native.Nat.{_*_, _-_, _≤_}
+use Prim.Native.Nat.{_-_, _≤_}
 use native.Mathlib.Omega.{arith}
 use lib.ListN.{length}
 use Rattle.pair_rows.proofs.tell_bytes.Statement.{statement}

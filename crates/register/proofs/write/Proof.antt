@@ -1,12 +1,11 @@
 -- `register::write` meets its contract: each `return` is one case of 01's order. Assumes nothing.
-use mathlib.Core.Path.{_≡_, refl, sym, ap, subst}
+use mathlib.Core.Path.{sym, subst}
 use mathlib.Core.List.{List}
 use Prim.Native.Nat.{ℕ, _+_, _*_, _≤_}
 use native.Mathlib.Omega.{arith}
-use lib.ListN.{length, take}
+use lib.ListN.{length}
 use lib.Seq.{length-take-le}
 use Rattle.stack.specs.declared.Layer.{Layer}
-use Rattle.stack.specs.Faults.{AcceptedStack}
 use Rattle.stack.specs.Strips.{StripsRight}
 use Rattle.stack.specs.Laid.{laid}
 use Rattle.stack.proofs.Laying.{laid-gathers, laid-twenty, for-gathered}

@@ -3,6 +3,7 @@ use mathlib.Core.Path.{ap}
 use mir.Syntax.{w32}
 use borrow.Author.Needs.{needs}
 use Rattle.whole.proofs.Machine.{returned}
+use Rattle.trace.proofs.PointLaws.{range-tells}
 use Rattle.stack.specs.declared.Layer.{Layer}
 use Rattle.stack.specs.Laid.{laid}
 use Rattle.stack.proofs.FaultTests.{plane-zero, plane-above}
@@ -20,7 +21,7 @@ returns c =
     let a = c .before .before .before .before .args in
     let layer = c .before .before .before .layer-at in
     plane-zero (laid (a .stack)) (a .k) (c .before .before .if1 .taken)
-    (returned w32 (ap (λ (e : Layer). e .plane) (layer .ensures)) (c .before .struct-told .given .0 .1)) (c .in-range .ensures)
+    (returned w32 (ap (λ (e : Layer). e .plane) (layer .ensures)) (c .before .struct-told .given .0 .1)) (range-tells _ (c .in-range .ensures))
 
 sub-layer-at : tie.Need-sub-layer-at
 sub-layer-at c = search needs
@@ -39,7 +40,7 @@ returns-2 c =
     plane-above (laid (a .stack)) (a .k) (c .before .before .before .before .before .before .before .if1 .left)
     (returned w32 (ap (λ (e : Layer). e .plane) (layer .ensures)) (c .before .before .before .before .before .struct-told2 .given .0 .1))
     (returned w32 (ap (λ (e : Layer). e .plane) (below .ensures)) (c .struct-told4 .given .0 .1))
-    (c .before .before .before .before .in-range2 .ensures)
+    (range-tells _ (c .before .before .before .before .in-range2 .ensures))
 
 pub plane-wrong-spec : {M : Type 1} → statement M
 plane-wrong-spec =

@@ -3,8 +3,8 @@
 use native.Mathlib.Omega.{arith}
 use borrow.Author.Needs.{needs}
 use Rattle.strip.specs.Judging.{pair}
-use Rattle.strip.specs.Walk.{Sides}
-use Rattle.trace.proofs.PairLaws.{Counts, counts, refuses-lower, refuses-upper}
+use Rattle.trace.specs.Pair.{PairCounts}
+use Rattle.trace.proofs.PairLaws.{Counts, counts, pair-counts, few-points, refuses-lower, refuses-upper}
 use Rattle.strip.proofs.Along.{length-judged, along-judged}
 use Rattle.strip.proofs.judge_strip.Statement.{statement}
 use Rattle.strip.proofs.judge_strip.Tie as tie
@@ -50,14 +50,13 @@ returns-2 c =
 sides : (c : tie.After-known-told2) →
     let lower = c .before .before .before .before .before in
     let args = lower .before .before .before .before .args in
-    Sides (args .a .now) (args .b .now) (lower .judged .given .0 .1 .0) (c .before .judged2 .given .0 .1 .0)
+    PairCounts (args .a .now) (args .b .now) (lower .judged .given .0 .1 .0) (c .before .judged2 .given .0 .1 .0)
 sides c =
-    let x = counts-lower (c .before .before .before .before .before) in
-    let y = counts (c .before .before .before .judge2 .ensures) (c .before .judged2 .given .1) in
-    record { pair = record { lower = x .accepted; upper = y .accepted }; countA = x .counted; countB = y .counted }
+    pair-counts (counts-lower (c .before .before .before .before .before))
+    (counts (c .before .before .before .judge2 .ensures) (c .before .judged2 .given .1))
 
 add-if1 : tie.Need-add-if1
-add-if1 c = let s = sides c in omega (arith, s .countA, s .countB, s .pair .lower .notMany, s .pair .upper .notMany)
+add-if1 c = omega (arith, few-points (sides c))
 
 lost-requires : tie.Need-lost-requires
 lost-requires c κs = search needs

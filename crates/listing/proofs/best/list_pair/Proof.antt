@@ -1,7 +1,6 @@
 -- `listing::best::list_pair` meets its contract: the run of best strips is there, its value and its volume fit, and the lines are those
 -- of 01. Assumes nothing.
-use mathlib.Core.Path.{_≡_, refl, sym, ap, ap₂, _∙_, subst}
-use mathlib.Core.List.{List}
+use mathlib.Core.Path.{_≡_, sym, ap₂, _∙_, subst}
 use native.Mathlib.Omega.{arith}
 use lib.IntN.{ℤ, pos, _+ℤ_, _*ℤ_}
 use lib.Signed.{quotZ}

@@ -6,7 +6,7 @@ use native.Mathlib.Omega.{arith}
 use borrow.Author.Needs.{needs}
 use lib.ListN.{length}
 use Rattle.listing.specs.Lines.{letter}
-use Rattle.listing.specs.Writing.{stepsOf}
+use Rattle.strip.specs.Bytes.{stepsOf}
 use Rattle.listing.proofs.LineLaws.{CopySo, copy-begun, copy-more, copy-done, letters-length, letter-at}
 use Rattle.listing.proofs.lines.put_letters.Statement.{statement}
 use Rattle.listing.proofs.lines.put_letters.Tie as tie

@@ -7,7 +7,8 @@ use borrow.Author.Needs.{needs}
 use Rattle.listing.proofs.StripLines.{LinesPut, lines-begun, line-room, line-more, lines-done, part-inside, part-cut}
 use Rattle.listing.proofs.LineLaws.{wrote-length}
 use Rattle.listing.specs.Lines.{stripLine}
-use Rattle.listing.specs.Writing.{Room, Wrote, stepsOf}
+use Rattle.strip.specs.Bytes.{stepsOf}
+use Rattle.listing.specs.Writing.{Room, Wrote}
 use Rattle.listing.proofs.lines.put_strips.Statement.{statement}
 use Rattle.listing.proofs.lines.put_strips.Tie as tie
 

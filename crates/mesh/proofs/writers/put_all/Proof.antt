@@ -3,7 +3,8 @@ use mathlib.Core.List.{List}
 use Prim.Native.Nat.{ℕ, _+_, _*_, _-_, _≤_}
 use native.Mathlib.Omega.{arith}
 use lib.ListN.{length}
-use Rattle.mesh.proofs.WriteLaws.{behind-long, back}
+use Rattle.whole.proofs.Filling.{back}
+use Rattle.mesh.proofs.WriteLaws.{behind-long}
 use Rattle.mesh.proofs.ClosedLaws.{Capped, whole-room, bottom-drawn, top-drawn, floor-room, roof-room, whole-filled}
 use borrow.Author.Needs.{needs}
 use Rattle.mesh.proofs.writers.put_all.Statement.{statement}

@@ -58,7 +58,7 @@ loop-again c =
     let so = inside .before .loop .inv .0 in
     let fan = floor-fan (inside .before .before .before .args .layer) in
     let one = c .before .before .floor-triangle in
-    (fan-more fan so (omega arith) (omega (arith, room inside)) (one .ensures) (one .kept .0), refl)
+    (fan-more fan so (omega arith) (one .ensures) (one .kept .0), refl)
 
 same-length : tie.Need-same-length Inv-loop μ-loop
 same-length c = c .before .loop .inv .0 .wrote .long

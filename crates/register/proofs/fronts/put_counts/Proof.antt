@@ -1,4 +1,4 @@
--- `register::fronts::put_counts` meets its contract, by the invariant `FrontSo`. Assumes nothing.
+-- `register::fronts::put_counts` meets its contract, by the invariant `CopySo`. Assumes nothing.
 use mathlib.Core.Path.{_≡_, refl}
 use mathlib.Core.List.{map}
 use Prim.Native.Nat.{_-_}
@@ -8,12 +8,13 @@ use borrow.Author.Needs.{needs}
 use Rattle.stack.specs.declared.Layer.{Layer}
 use Rattle.stack.specs.Laid.{laid}
 use Rattle.stack.proofs.Laying.{laid-long}
-use Rattle.register.proofs.FrontLaws.{FrontSo, front-begun, front-more, front-done, field-at}
+use Rattle.whole.proofs.Filling.{CopySo, copy-begun, copy-more, copy-done}
+use Rattle.register.proofs.FrontLaws.{field-at}
 use Rattle.register.proofs.fronts.put_counts.Statement.{statement}
 use Rattle.register.proofs.fronts.put_counts.Tie as tie
 
 abbrev Inv-loop : tie.InvT-loop
-Inv-loop stack out₀ layers k₀ out k = FrontSo (map (λ (e : Layer). e .count) (laid stack)) k out₀ out × (layers ≡ stack .layers)
+Inv-loop stack out₀ layers k₀ out k = CopySo (map (λ (e : Layer). e .count) (laid stack)) k out₀ out × (layers ≡ stack .layers)
 
 abbrev μ-loop : tie.MeasureT-loop
 μ-loop stack out₀ layers k₀ out k = layers - k
@@ -22,7 +23,7 @@ loop-holds : tie.Need-loop-holds Inv-loop μ-loop
 loop-holds c =
     let a = c .before .args in
     let es = laid (a .stack) in
-    (front-begun (map (λ (e : Layer). e .count) es) (a .out .now) (omega (arith, length-map es (λ (e : Layer). e .count), laid-long (a .stack), c .before .pre .1)), refl)
+    (copy-begun (map (λ (e : Layer). e .count) es) (a .out .now) (omega (arith, length-map es (λ (e : Layer). e .count), laid-long (a .stack), c .before .pre .1)), refl)
 
 layer-at-requires : tie.Need-layer-at-requires Inv-loop μ-loop
 layer-at-requires c κs = search needs
@@ -48,7 +49,7 @@ loop-again c =
     let so = c .before .before .loop .inv .0 in
     let a = c .before .before .before .before .args in
     let es = laid (a .stack) in (
-      front-more so (0) _ (omega (arith, length-map es (λ (e : Layer). e .count), laid-long (a .stack), c .before .before .loop .inv .1))
+      copy-more so (0) _ (omega (arith, length-map es (λ (e : Layer). e .count), laid-long (a .stack), c .before .before .loop .inv .1))
           (field-at (λ (e : Layer). e .count) es (c .before .before .loop .k) (c .layer-at .ensures)),
       c .before .before .loop .inv .1,
     )
@@ -59,7 +60,7 @@ same-length c = c .before .loop .inv .0 .long
 returns : tie.Need-returns Inv-loop μ-loop
 returns c =
     let a = c .before .before .before .args in
-    front-done (c .before .loop .inv .0) (omega (arith, length-map (laid (a .stack)) (λ (e : Layer). e .count), laid-long (a .stack), c .before .loop .inv .1))
+    copy-done (c .before .loop .inv .0) (omega (arith, length-map (laid (a .stack)) (λ (e : Layer). e .count), laid-long (a .stack), c .before .loop .inv .1))
 
 pub put-counts-spec : {M : Type 1} → statement M
 put-counts-spec =

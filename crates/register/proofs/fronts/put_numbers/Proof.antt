@@ -1,4 +1,4 @@
--- `register::fronts::put_numbers` meets its contract, by the invariant `FrontSo`. Assumes nothing.
+-- `register::fronts::put_numbers` meets its contract, by the invariant `CopySo`. Assumes nothing.
 use mathlib.Core.Path.{sym, ap, _∙_}
 use Prim.Native.Nat.{_*_, _-_}
 use native.Mathlib.Omega.{arith}
@@ -9,12 +9,12 @@ use mir.Syntax.{w32}
 use Rattle.whole.proofs.Machine.{returned}
 use Rattle.register.specs.Decoding.{number, numbers}
 use Rattle.register.proofs.DecodeLaws.{numbers-long, numbers-at}
-use Rattle.register.proofs.FrontLaws.{FrontSo, front-begun, front-more, front-done}
+use Rattle.whole.proofs.Filling.{CopySo, copy-begun, copy-more, copy-done}
 use Rattle.register.proofs.fronts.put_numbers.Statement.{statement}
 use Rattle.register.proofs.fronts.put_numbers.Tie as tie
 
 abbrev Inv-loop : tie.InvT-loop
-Inv-loop contents at many out₀ k₀ out k = FrontSo (numbers many (drop at contents)) k out₀ out
+Inv-loop contents at many out₀ k₀ out k = CopySo (numbers many (drop at contents)) k out₀ out
 
 abbrev μ-loop : tie.MeasureT-loop
 μ-loop contents at many out₀ k₀ out k = many - k
@@ -23,7 +23,7 @@ loop-holds : tie.Need-loop-holds Inv-loop μ-loop
 loop-holds c =
     let a = c .before .args in
     let l = numbers (a .many) (drop (a .at) (a .contents .now)) in
-    front-begun l (a .out .now) (omega (arith, numbers-long (a .many) (drop (a .at) (a .contents .now)), c .before .pre .1))
+    copy-begun l (a .out .now) (omega (arith, numbers-long (a .many) (drop (a .at) (a .contents .now)), c .before .pre .1))
 
 mul-number-at : tie.Need-mul-number-at Inv-loop μ-loop
 mul-number-at c = omega arith
@@ -54,7 +54,7 @@ loop-again c =
     let a = c .before .before .before .before .args in
     let k = c .before .before .loop .k in
     let r = drop (a .at) (a .contents .now) in
-    front-more (c .before .before .loop .inv) (pos 0) _ (omega (arith, numbers-long (a .many) r))
+    copy-more (c .before .before .loop .inv) (pos 0) _ (omega (arith, numbers-long (a .many) r))
     (returned w32 (c .number-at .ensures) (c .number-at .ok)
     ∙ sym (numbers-at (a .many) r k (omega arith) ∙ ap number (drop-drop (4 * k) (a .at) (a .contents .now))))
 
@@ -64,7 +64,7 @@ same-length c = c .before .loop .inv .long
 returns : tie.Need-returns Inv-loop μ-loop
 returns c =
     let a = c .before .before .before .args in
-    front-done (c .before .loop .inv) (omega (arith, numbers-long (a .many) (drop (a .at) (a .contents .now))))
+    copy-done (c .before .loop .inv) (omega (arith, numbers-long (a .many) (drop (a .at) (a .contents .now))))
 
 pub put-numbers-spec : {M : Type 1} → statement M
 put-numbers-spec =

@@ -1,4 +1,4 @@
--- `register::fronts::put_planes` meets its contract, by the invariant `FrontSo`. Assumes nothing.
+-- `register::fronts::put_planes` meets its contract, by the invariant `CopySo`. Assumes nothing.
 use mathlib.Core.Path.{_≡_, refl, _∙_}
 use mathlib.Core.List.{map}
 use Prim.Native.Nat.{_-_}
@@ -11,12 +11,13 @@ use borrow.Author.Needs.{needs}
 use Rattle.stack.specs.declared.Layer.{Layer}
 use Rattle.stack.specs.Laid.{laid}
 use Rattle.stack.proofs.Laying.{laid-long}
-use Rattle.register.proofs.FrontLaws.{FrontSo, front-begun, front-more, front-done, field-at}
+use Rattle.whole.proofs.Filling.{CopySo, copy-begun, copy-more, copy-done}
+use Rattle.register.proofs.FrontLaws.{field-at}
 use Rattle.register.proofs.fronts.put_planes.Statement.{statement}
 use Rattle.register.proofs.fronts.put_planes.Tie as tie
 
 abbrev Inv-loop : tie.InvT-loop
-Inv-loop stack out₀ layers k₀ out k = FrontSo (map (λ (e : Layer). e .plane) (laid stack)) k out₀ out × (layers ≡ stack .layers)
+Inv-loop stack out₀ layers k₀ out k = CopySo (map (λ (e : Layer). e .plane) (laid stack)) k out₀ out × (layers ≡ stack .layers)
 
 abbrev μ-loop : tie.MeasureT-loop
 μ-loop stack out₀ layers k₀ out k = layers - k
@@ -25,7 +26,7 @@ loop-holds : tie.Need-loop-holds Inv-loop μ-loop
 loop-holds c =
     let a = c .args in
     let es = laid (a .stack) in
-    (front-begun (map (λ (e : Layer). e .plane) es) (a .out .now) (omega (arith, length-map es (λ (e : Layer). e .plane), laid-long (a .stack), c .pre .1)), refl)
+    (copy-begun (map (λ (e : Layer). e .plane) es) (a .out .now) (omega (arith, length-map es (λ (e : Layer). e .plane), laid-long (a .stack), c .pre .1)), refl)
 
 layer-at-requires : tie.Need-layer-at-requires Inv-loop μ-loop
 layer-at-requires c κs = search needs
@@ -51,7 +52,7 @@ loop-again c =
     let so = c .before .before .before .loop .inv .0 in
     let a = c .before .before .before .before .args in
     let es = laid (a .stack) in (
-      front-more so (pos 0) _ (omega (arith, length-map es (λ (e : Layer). e .plane), laid-long (a .stack), c .before .before .before .loop .inv .1))
+      copy-more so (pos 0) _ (omega (arith, length-map es (λ (e : Layer). e .plane), laid-long (a .stack), c .before .before .before .loop .inv .1))
           (read-back w32 (c .before .layer-at .result .plane) (c .struct-told .given .0 .1) ∙ field-at (λ (e : Layer). e .plane) es (c .before .before .before .loop .k) (c .before .layer-at .ensures)),
       c .before .before .before .loop .inv .1,
     )
@@ -62,7 +63,7 @@ same-length c = c .before .loop .inv .0 .long
 returns : tie.Need-returns Inv-loop μ-loop
 returns c =
     let a = c .before .before .args in
-    front-done (c .before .loop .inv .0) (omega (arith, length-map (laid (a .stack)) (λ (e : Layer). e .plane), laid-long (a .stack), c .before .loop .inv .1))
+    copy-done (c .before .loop .inv .0) (omega (arith, length-map (laid (a .stack)) (λ (e : Layer). e .plane), laid-long (a .stack), c .before .loop .inv .1))
 
 pub put-planes-spec : {M : Type 1} → statement M
 put-planes-spec =

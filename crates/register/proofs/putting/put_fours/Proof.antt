@@ -1,5 +1,4 @@
 -- `register::putting::put_fours` meets its contract, by the invariant `FoursSo`. Assumes nothing.
-use mathlib.Core.Path.{refl}
 use Prim.Native.Nat.{_+_, _*_, _-_, _≤_}
 use native.Mathlib.Omega.{arith}
 use lib.IntN.{pos}

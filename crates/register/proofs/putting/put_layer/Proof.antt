@@ -1,12 +1,6 @@
 -- `register::putting::put_layer` meets its contract: one behind the other. Assumes nothing.
-use mathlib.Core.List.{List}
-use Prim.Native.Nat.{ℕ}
-use mathlib.Core.Path.{subst}
-use lib.IntN.{ℤ}
 use mir.Syntax.{w32}
-use Rattle.whole.specs.Filled.{Filled}
 use Rattle.whole.proofs.Machine.{read-back}
-use Rattle.register.specs.Contents.{four}
 use Rattle.register.proofs.PutLaws.{layer-filled}
 use borrow.Author.Needs.{needs}
 use Rattle.register.proofs.putting.put_layer.Statement.{statement}

@@ -1,13 +1,13 @@
 -- `register::putting::put_layer_of` meets its contract: the trace of an accepted layer lies inside the list. Assumes nothing.
 use mathlib.Core.Path.{_≡_, sym, ap, _∙_, subst}
 use mathlib.Core.List.{List, _++_}
-use Prim.Native.Nat.{ℕ, _+_, _*_, _/_, _≤_, _<_}
+use Prim.Native.Nat.{_+_, _*_, _/_, _≤_, _<_}
 use native.Mathlib.Omega.{arith}
 use lib.IntN.{ℤ}
 use lib.ListN.{length}
 use Rattle.whole.specs.Filled.{Filled}
 use Rattle.stack.specs.declared.Layer.{Layer}
-use Rattle.stack.specs.Entries.{entry, stop, traceOf}
+use Rattle.stack.specs.Entries.{entry, stop}
 use Rattle.stack.specs.Laid.{laid}
 use Rattle.stack.proofs.StackLaws.{accepted-inside, accepted-count}
 use Rattle.stack.proofs.Laying.{laid-long}

@@ -1,6 +1,5 @@
 -- `register::putting::put_two` meets its contract. Assumes nothing.
 use native.Mathlib.Omega.{arith}
-use lib.ListN.{length-set}
 use Rattle.register.proofs.PutLaws.{two-filled}
 use borrow.Author.Needs.{needs}
 use Rattle.register.proofs.putting.put_two.Statement.{statement}

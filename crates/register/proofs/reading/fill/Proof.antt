@@ -27,17 +27,17 @@ put-coords-requires c κs =
     let s = c .before .before .before .before .before .before .before .before .before .before .before .before .before .before .before .before in
     (layers-few (s .pre .0), omega (arith, ap length (coords-by (s .pre .0)), s .pre .1 .forCoords))
 
-sub-put-strips : tie.Need-sub-put-strips
-sub-put-strips c = let s = c .before .before .before .before .before .before .before .before .before .before .before .before .before .before .before .before .before .before in omega (arith, from-end (s .pre .0), end-inside (s .pre .0))
+sub-put-bytes : tie.Need-sub-put-bytes
+sub-put-bytes c = let s = c .before .before .before .before .before .before .before .before .before .before .before .before .before .before .before .before .before .before in omega (arith, from-end (s .pre .0), end-inside (s .pre .0))
 
-part-put-strips-start : tie.Need-part-put-strips-start
-part-put-strips-start c = let s = c .before .before .before .before .before .before .before .before .before .before .before .before .before .before .before .before .before .before in omega (arith, from-end (s .pre .0), end-inside (s .pre .0))
+part-put-bytes-start : tie.Need-part-put-bytes-start
+part-put-bytes-start c = let s = c .before .before .before .before .before .before .before .before .before .before .before .before .before .before .before .before .before .before in omega (arith, from-end (s .pre .0), end-inside (s .pre .0))
 
-part-put-strips-end : tie.Need-part-put-strips-end
-part-put-strips-end c = let s = c .before .before .before .before .before .before .before .before .before .before .before .before .before .before .before .before .before .before in omega (arith, from-end (s .pre .0), end-inside (s .pre .0))
+part-put-bytes-end : tie.Need-part-put-bytes-end
+part-put-bytes-end c = let s = c .before .before .before .before .before .before .before .before .before .before .before .before .before .before .before .before .before .before in omega (arith, from-end (s .pre .0), end-inside (s .pre .0))
 
-put-strips-requires : tie.Need-put-strips-requires
-put-strips-requires c κs =
+put-bytes-requires : tie.Need-put-bytes-requires
+put-bytes-requires c κs =
     let s = c .before .before .before .before .before .before .before .before .before .before .before .before .before .before .before .before .before .before .before .before in
     omega (arith, ap length (strips-here (s .pre .0)), s .pre .1 .forStrips)
 
@@ -63,7 +63,7 @@ returns c =
     (c .before .before .before .before .before .before .before .before .before .before .before .before .before .before .put-firsts .ensures)
     (c .before .before .before .before .before .before .before .before .before .before .put-counts .ensures)
     (c .before .before .before .before .before .before .put-coords .ensures)
-    (c .before .before .put-strips .ensures)
+    (c .before .before .put-bytes .ensures)
 
 pub fill-spec : {M : Type 1} → statement M
 fill-spec =
@@ -73,10 +73,10 @@ fill-spec =
     put-firsts-requires
     put-counts-requires
     put-coords-requires
-    sub-put-strips
-    part-put-strips-start
-    part-put-strips-end
-    put-strips-requires
+    sub-put-bytes
+    part-put-bytes-start
+    part-put-bytes-end
+    put-bytes-requires
     same-length
     same-length-2
     same-length-3

@@ -16,14 +16,17 @@ empty-requires c κs = search needs
 loop-holds : tie.Need-loop-holds Inv-loop μ-loop
 loop-holds c = search needs
 
+mul-lowered : tie.Need-mul-lowered Inv-loop μ-loop
+mul-lowered c = search needs
+
+add-lowered : tie.Need-add-lowered Inv-loop μ-loop
+add-lowered c = search needs
+
+lowered-requires : tie.Need-lowered-requires Inv-loop μ-loop
+lowered-requires c κs = search needs
+
 mul-with-layer : tie.Need-mul-with-layer Inv-loop μ-loop
 mul-with-layer c = search needs
-
-cast-with-layer : tie.Need-cast-with-layer Inv-loop μ-loop
-cast-with-layer c = search needs
-
-mul-with-layer-2 : tie.Need-mul-with-layer-2 Inv-loop μ-loop
-mul-with-layer-2 c = search needs
 
 with-layer-requires : tie.Need-with-layer-requires Inv-loop μ-loop
 with-layer-requires c κs = search needs
@@ -48,9 +51,10 @@ tower-spec =
     μ-loop
     empty-requires
     loop-holds
+    mul-lowered
+    add-lowered
+    lowered-requires
     mul-with-layer
-    cast-with-layer
-    mul-with-layer-2
     with-layer-requires
     add-k
     loop-less
