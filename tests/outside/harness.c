@@ -289,6 +289,10 @@ static uint8_t ss[20000];
 static uint32_t ts[40000];
 static uint8_t contents[60000], file[60000], sealed[60000];
 
+_Static_assert(sizeof(struct register_layer) == 24 && offsetof(struct register_layer, first) == 8 &&
+                   offsetof(struct register_layer, count) == 16,
+               "an entry lies as the proofs have it");
+
 /* the layers as they are lent: of over 20, the others at random */
 static struct slice entries;
 
