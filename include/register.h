@@ -29,13 +29,12 @@ struct register_run_answer {
     bool more;    /* whether some remain */
 };
 
-/* A stack over one common coordinate list, by value: plane, first point and number of points of each layer from the bottom, and the
- * number of layers. Of more than 20 layers only their number counts, which is refused; arrays past `layers` are not looked at. */
-struct register_stack {
-    int32_t plane[20];
-    size_t first[20];
-    size_t count[20];
-    size_t layers;
+/* One layer of a stack. A stack is a slice of layers from the bottom, over one common coordinate list. Of more than 20 layers only their
+ * number counts, which is refused. */
+struct register_layer {
+    int32_t plane;
+    size_t first; /* its first point in the common list */
+    size_t count; /* its number of points */
 };
 
 struct register_stack_answer {
@@ -95,33 +94,35 @@ struct register_run_answer register_list_best(const int32_t *a, size_t a_len, co
                                               size_t lines_len, uint8_t *work, size_t work_len, size_t limit);
 
 /* Of a stack: 11, 1, 12, then trace by trace 2 to 6, then 7. */
-struct register_stack_answer register_judge_stack(struct register_stack stack, const int32_t *coords, size_t coords_len);
+struct register_stack_answer register_judge_stack(const struct register_layer *layers, size_t layers_len, const int32_t *coords,
+                                                  size_t coords_len);
 
 /* The strips of all bands from the bottom, one after another: 9 at 0 if they do not fill their slice (or there are over 20 layers), else
  * at the lowest band whose part is no strip. The stack itself is not judged. */
-struct register_strips_answer register_judge_strips(struct register_stack stack, const uint8_t *strips, size_t strips_len);
+struct register_strips_answer register_judge_strips(const struct register_layer *layers, size_t layers_len, const uint8_t *strips,
+                                                    size_t strips_len);
 
 /* The first best strip of every band. A byte for each step of all bands, and the (m+1)(n+1) work bytes of the band that needs most. */
-struct register_steps_answer register_best_strips(struct register_stack stack, const int32_t *coords, size_t coords_len, uint8_t *strips,
-                                                  size_t strips_len, uint8_t *work, size_t work_len);
+struct register_steps_answer register_best_strips(const struct register_layer *layers, size_t layers_len, const int32_t *coords,
+                                                  size_t coords_len, uint8_t *strips, size_t strips_len, uint8_t *work, size_t work_len);
 
 /* Six times the volume: the stack is judged, then the strips. */
-struct register_answer register_volume(struct register_stack stack, const int32_t *coords, size_t coords_len, const uint8_t *strips,
-                                       size_t strips_len);
+struct register_answer register_volume(const struct register_layer *layers, size_t layers_len, const int32_t *coords, size_t coords_len,
+                                       const uint8_t *strips, size_t strips_len);
 
 /* The closed triangle list: three numbers a triangle, of which there are one a step and two fewer than the points of either end layer. */
-struct register_mesh_answer register_triangles(struct register_stack stack, const int32_t *coords, size_t coords_len,
-                                               const uint8_t *strips, size_t strips_len, uint32_t *out, size_t out_len);
+struct register_mesh_answer register_triangles(const struct register_layer *layers, size_t layers_len, const int32_t *coords,
+                                               size_t coords_len, const uint8_t *strips, size_t strips_len, uint32_t *out,
+                                               size_t out_len);
 
 /* The register file of a stack with its strips: blocks of 512 bytes, 98 at most. */
-struct register_bytes_answer register_write(struct register_stack stack, const int32_t *coords, size_t coords_len, const uint8_t *strips,
-                                            size_t strips_len, uint8_t *out, size_t out_len);
+struct register_bytes_answer register_write(const struct register_layer *layers, size_t layers_len, const int32_t *coords,
+                                            size_t coords_len, const uint8_t *strips, size_t strips_len, uint8_t *out, size_t out_len);
 
-/* A register file, read. Of its layers the planes, first points and numbers of points: lend an entry a layer in each of the three; two
- * numbers a point; a byte a step. 20 layers, 10,000 coordinates and 9,500 steps are always enough. */
-struct register_file_answer register_read(const uint8_t *file, size_t file_len, int32_t *planes, size_t planes_len, size_t *firsts,
-                                          size_t firsts_len, size_t *counts, size_t counts_len, int32_t *coords, size_t coords_len,
-                                          uint8_t *strips, size_t strips_len);
+/* A register file, read: lend an entry a layer, two numbers a point and a byte a step. 20 layers, 10,000 coordinates and 9,500 steps are
+ * always enough. Entries past the file's layers are left as they are. */
+struct register_file_answer register_read(const uint8_t *file, size_t file_len, struct register_layer *layers, size_t layers_len,
+                                          int32_t *coords, size_t coords_len, uint8_t *strips, size_t strips_len);
 
 /* What the listing program prints for a text; lend 501,047 bytes. A refusal of the text is itself printed: number is then 0. */
 struct register_bytes_answer register_listing(const uint8_t *text, size_t text_len, uint8_t *out, size_t out_len);

@@ -289,16 +289,25 @@ static uint8_t ss[20000];
 static uint32_t ts[40000];
 static uint8_t contents[60000], file[60000], sealed[60000];
 
-static struct register_stack by_value(size_t layers) {
-    struct register_stack st;
-    memset(&st, 0, sizeof st);
-    for (size_t k = 0; k < 20 && k < layers; k++) {
-        st.plane[k] = (int32_t)es[k].plane;
-        st.first[k] = es[k].first;
-        st.count[k] = es[k].count;
-    }
-    st.layers = layers;
-    return st;
+_Static_assert(sizeof(struct register_layer) == 24 && offsetof(struct register_layer, first) == 8 &&
+                   offsetof(struct register_layer, count) == 16,
+               "an entry lies as the proofs have it");
+
+/* the layers as they are lent: of over 20, the others at random */
+static struct slice entries;
+
+static const struct register_layer *lend_layers(size_t layers) {
+    lend(&entries, layers * sizeof(struct register_layer));
+    struct register_layer *e = (struct register_layer *)entries.at;
+    for (size_t k = 0; k < layers && k < 20; k++)
+        e[k].plane = (int32_t)es[k].plane, e[k].first = es[k].first, e[k].count = es[k].count;
+    memcpy(entries.was, entries.at, entries.bytes);
+    return e;
+}
+
+static void told_of_layers(int entry, unsigned number) {
+    told(entry, number);
+    kept(&entries, 0, "the lent layers");
 }
 
 /* random layers over cs; the number of coordinates */
@@ -340,7 +349,7 @@ static void random_strips(size_t layers) {
     }
 }
 
-static void try_bands(struct register_stack st, size_t layers, size_t len, struct own_answer f) {
+static void try_bands(const struct register_layer *st, size_t layers, size_t len, struct own_answer f) {
     size_t steps = f.number ? 40 : own_steps(es, layers), most = 0;
     for (size_t k = 0; f.number == 0 && k + 1 < layers; k++)
         if ((es[k].count + 1) * (es[k + 1].count + 1) > most)
@@ -349,8 +358,8 @@ static void try_bands(struct register_stack st, size_t layers, size_t len, struc
     int short_strips = below(9) == 0, short_work = below(9) == 0;
     lend(&strips, steps - short_strips);
     lend(&work, f.number ? 60 : most - short_work);
-    struct register_steps_answer r = register_best_strips(st, cs, len, strips.at, strips.bytes, work.at, work.bytes);
-    told(BANDS, r.number);
+    struct register_steps_answer r = register_best_strips(st, layers, cs, len, strips.at, strips.bytes, work.at, work.bytes);
+    told_of_layers(BANDS, r.number);
     if (f.number == 0 && (short_strips || short_work))
         f.number = 8;
     SAME(r.number == f.number && r.place == f.place, "number or place");
@@ -370,19 +379,19 @@ static void try_bands(struct register_stack st, size_t layers, size_t len, struc
     give_back(&work);
 }
 
-static void try_triangles(struct register_stack st, size_t layers, size_t len, struct own_answer f, size_t steps) {
+static void try_triangles(const struct register_layer *st, size_t layers, size_t len, struct own_answer f, size_t steps) {
     struct own_answer g = f;
     if (g.number == 0)
         g = own_strips_fault(es, layers, ss, steps);
-    struct register_answer v = register_volume(st, cs, len, ss, steps);
-    told(VOLUME, v.number);
+    struct register_answer v = register_volume(st, layers, cs, len, ss, steps);
+    told_of_layers(VOLUME, v.number);
     SAME(v.number == g.number && v.place == g.place, "number or place");
     size_t count = f.number ? 0 : own_steps(es, layers) + es[0].count - 2 + es[layers - 1].count - 2;
     int short_out = f.number == 0 && below(9) == 0;
     struct slice out;
     lend(&out, 4 * (3 * count - short_out + (short_out ? 0 : below(4))));
-    struct register_mesh_answer r = register_triangles(st, cs, len, ss, steps, (uint32_t *)out.at, out.bytes / 4);
-    told(TRIANGLES, r.number);
+    struct register_mesh_answer r = register_triangles(st, layers, cs, len, ss, steps, (uint32_t *)out.at, out.bytes / 4);
+    told_of_layers(TRIANGLES, r.number);
     if (f.number == 0 && short_out)
         g.number = 8, g.place = 0;
     SAME(r.number == g.number && r.place == g.place, "number or place");
@@ -399,7 +408,7 @@ static void try_triangles(struct register_stack st, size_t layers, size_t len, s
 
 static void same_read(const uint8_t *f, size_t len);
 
-static void try_file(struct register_stack st, size_t layers, size_t len, struct own_answer f, size_t steps) {
+static void try_file(const struct register_layer *st, size_t layers, size_t len, struct own_answer f, size_t steps) {
     struct own_answer g = f;
     if (g.number == 0)
         g = own_strips_fault(es, layers, ss, steps);
@@ -407,8 +416,8 @@ static void try_file(struct register_stack st, size_t layers, size_t len, struct
     int short_out = f.number == 0 && below(9) == 0;
     struct slice out;
     lend(&out, f.number ? below(2000) : 512 * blocks - short_out + (short_out ? 0 : below(700)));
-    struct register_bytes_answer r = register_write(st, cs, len, ss, steps, out.at, out.bytes);
-    told(WRITE, r.number);
+    struct register_bytes_answer r = register_write(st, layers, cs, len, ss, steps, out.at, out.bytes);
+    told_of_layers(WRITE, r.number);
     if (f.number == 0 && short_out)
         g.number = 8, g.place = 0;
     SAME(r.number == g.number && r.place == g.place, "number or place");
@@ -460,20 +469,19 @@ static void same_read(const uint8_t *f, size_t len) {
     static uint8_t opened[60000];
     want.c = wanted;
     own_read(&want, f, len, opened);
-    struct slice lent[5];
-    const size_t width[5] = {4, sizeof(size_t), sizeof(size_t), 4, 1};
-    size_t need[5] = {want.layers, want.layers, want.layers, 2 * want.points, want.steps};
-    int shortened = below(6) == 0 ? (int)below(5) : -1, room = 1;
-    for (int k = 0; k < 5; k++) {
-        size_t n = want.refused.number ? below(30) : need[k] + below(3);
+    struct slice lent[3]; /* entries, coordinates, strips */
+    const size_t width[3] = {sizeof(struct register_layer), 4, 1};
+    size_t need[3] = {want.layers, 2 * want.points, want.steps};
+    int shortened = below(6) == 0 ? (int)below(3) : -1, room = 1;
+    for (int k = 0; k < 3; k++) {
+        size_t n = want.refused.number ? below(30) : need[k] + (below(5) ? below(3) : 20 + below(9));
         if (want.refused.number == 0 && shortened == k && need[k] > 0)
-            n = need[k] - 1, room = 0;
+            n = below(3) ? need[k] - 1 : 0, room = 0;
         lend(&lent[k], n * width[k]);
     }
-    struct register_file_answer r =
-        register_read(f, len, (int32_t *)lent[0].at, lent[0].bytes / 4, (size_t *)lent[1].at, lent[1].bytes / sizeof(size_t),
-                      (size_t *)lent[2].at, lent[2].bytes / sizeof(size_t), (int32_t *)lent[3].at, lent[3].bytes / 4, lent[4].at,
-                      lent[4].bytes);
+    struct register_layer *read = (struct register_layer *)lent[0].at;
+    struct register_file_answer r = register_read(f, len, read, lent[0].bytes / width[0], (int32_t *)lent[1].at, lent[1].bytes / 4,
+                                                  lent[2].at, lent[2].bytes);
     told(READ, r.number);
     struct own_answer g = want.refused;
     if (g.number == 0 && !room)
@@ -481,27 +489,34 @@ static void same_read(const uint8_t *f, size_t len) {
     if (g.number == 0)
         g = want.strip;
     SAME(r.number == g.number && r.place == g.place, "number or place");
-    for (int k = 0; k < 5; k++)
+    for (int k = 0; k < 3; k++)
         kept(&lent[k], g.number ? 0 : need[k] * width[k], "what is lent for reading");
     if (g.number == 0) {
         SAME(r.layers == want.layers && r.points == want.points && r.steps == want.steps, "the numbers");
         for (size_t k = 0; k < want.layers; k++)
-            SAME(((int32_t *)lent[0].at)[k] == want.es[k].plane && ((size_t *)lent[1].at)[k] == want.es[k].first &&
-                     ((size_t *)lent[2].at)[k] == want.es[k].count,
-                 "an entry");
-        SAME(memcmp(lent[3].at, wanted, 8 * want.points) == 0 && memcmp(lent[4].at, want.s, want.steps) == 0, "coordinates or steps");
+            SAME(read[k].plane == want.es[k].plane && read[k].first == want.es[k].first && read[k].count == want.es[k].count, "an entry");
+        SAME(memcmp(lent[1].at, wanted, 8 * want.points) == 0 && memcmp(lent[2].at, want.s, want.steps) == 0, "coordinates or steps");
     }
-    for (int k = 0; k < 5; k++)
+    for (int k = 0; k < 3; k++)
         give_back(&lent[k]);
+}
+
+static void try_strips(const struct register_layer *st, size_t layers, size_t steps) {
+    struct own_answer g = {9, 0};
+    if (layers <= 20)
+        g = own_strips_fault(es, layers, ss, steps);
+    struct register_strips_answer s = register_judge_strips(st, layers, ss, steps);
+    told_of_layers(STRIPS, s.number);
+    SAME(s.number == g.number && s.place == g.place, "number or place");
 }
 
 static void try_stack(size_t most, int spoil) {
     size_t layers = below(12) == 0 ? below(4) == 0 ? 21 + below(3) : below(2) : 2 + below(below(8) ? 3 : 19);
     size_t len = make_stack(layers, most, spoil);
-    struct register_stack st = by_value(layers);
+    const struct register_layer *st = lend_layers(layers);
     struct own_answer f = own_stack_fault(es, layers, cs, len);
-    struct register_stack_answer r = register_judge_stack(st, cs, len);
-    told(STACK, r.number);
+    struct register_stack_answer r = register_judge_stack(st, layers, cs, len);
+    told_of_layers(STACK, r.number);
     SAME(r.number == f.number && r.place == f.place, "number or place");
     SAME(f.number || (r.points == len / 2 && r.steps == own_steps(es, layers)), "points or steps");
     size_t steps = 30;
@@ -512,14 +527,14 @@ static void try_stack(size_t most, int spoil) {
             ss[below(steps)] = (uint8_t)below(3);
         if (below(8) == 0)
             steps--;
-        struct own_answer g = own_strips_fault(es, layers, ss, steps);
-        struct register_strips_answer s = register_judge_strips(st, ss, steps);
-        told(STRIPS, s.number);
-        SAME(s.number == g.number && s.place == g.place, "number or place");
+        try_strips(st, layers, steps);
+    } else if (f.number == 11) {
+        try_strips(st, layers, below(2) ? 0 : steps);
     }
     try_bands(st, layers, len, f);
     try_triangles(st, layers, len, f, steps);
     try_file(st, layers, len, f, steps);
+    give_back(&entries);
 }
 
 /* ---- the listing */

@@ -13,15 +13,13 @@ use Rattle.joining.specs.Answers.{BestAnswer, NextAnswer}
 use Rattle.joining.specs.Listing.{ListAnswer}
 use Rattle.joining.proofs.Exact.{Same, best-unique, followed-unique, list-unique}
 use Rattle.stack.specs.declared.Layer.{Layer}
-use Rattle.stack.specs.declared.Stack.{Stack}
 use Rattle.stack.specs.Faults.{StackJudged}
 use Rattle.stack.specs.Strips.{StripsAnswered}
-use Rattle.stack.specs.Gathered.{Gathers}
-use Rattle.stack.proofs.Exact.{judge-stack-unique, judge-strips-unique}
+use Rattle.stack.proofs.Exact.{stack-judged-unique, strips-answered-unique}
 use Rattle.bands.specs.Bands.{BandsAnswer}
-use Rattle.bands.proofs.Exact.{best-strips-unique}
+use Rattle.bands.proofs.Exact.{bands-unique}
 use Rattle.mesh.specs.Meshing.{Measured, Triangled}
-use Rattle.mesh.proofs.Answers.{volume-unique, triangled-unique}
+use Rattle.mesh.proofs.Answers.{measured-once, triangled-once}
 use Rattle.exports.specs.declared.Answer.{Answer}
 use Rattle.exports.specs.declared.RunAnswer.{RunAnswer}
 use Rattle.exports.specs.declared.stacks.StackAnswer.{StackAnswer}
@@ -30,12 +28,12 @@ use Rattle.exports.specs.declared.stacks.StepsAnswer.{StepsAnswer}
 use Rattle.exports.specs.declared.stacks.MeshAnswer.{MeshAnswer}
 use Rattle.exports.specs.Shown.{valued, followed, listed}
 use Rattle.register.specs.Writing.{WriteAnswer}
-use Rattle.register.proofs.WriteExact.{write-unique}
-use Rattle.register.specs.declared.ReadBack.{ReadBack}
-use Rattle.register.specs.Reading.{Lent, ReadAnswer}
-use Rattle.register.proofs.ReadExact.{read-unique}
+use Rattle.register.proofs.WriteExact.{write-once}
+use Rattle.register.specs.Reading.{ReadAnswer}
+use Rattle.entries.specs.Reading.{lentEntries}
+use Rattle.entries.proofs.Exact.{read-once}
+use Rattle.entries.proofs.Exact as entries
 use Rattle.exports.specs.declared.files.FileAnswer.{FileAnswer}
-use Rattle.listing.specs.declared.Listed.{Listed}
 use Rattle.listing.specs.Listing.{ListingAnswer}
 use Rattle.listing.proofs.Unique.{answer-unique}
 use Rattle.exports.specs.declared.files.BytesAnswer.{BytesAnswer}
@@ -66,44 +64,44 @@ module _ {a b : List ℤ} {l work s s′ w w′ : List ℕ} where
 
 -- ---- a stack and its strips
 
--- what a function shows that answers for all entries that a Stack gathers
-abbrev Shows : {X Y : Type 0} → Stack → (List Layer → X → Type 0) → (X → Y) → Y → Type 0
-Shows {X} st Is show r = (x : X) × (((es : List Layer) → Gathers st es → Is es x) × (r ≡ show x))
+-- what a function shows of an answer
+abbrev Shows : {X Y : Type 0} → (X → Type 0) → (X → Y) → Y → Type 0
+Shows {X} Is show r = (x : X) × (Is x × (r ≡ show x))
 
-pub register-judge-stack-unique : {st : Stack} {c : List ℤ} {r r′ : StackAnswer} → Shows st (λ es. StackJudged es c) stackAs r
-    → Shows st (λ es. StackJudged es c) stackAs r′ → r ≡ r′
-register-judge-stack-unique {st} {c} (x, (p, e)) (y, (q, f)) = e ∙ ap stackAs (judge-stack-unique st c p q) ∙ sym f
+module _ {es : List Layer} where
+  pub register-judge-stack-unique : {c : List ℤ} {r r′ : StackAnswer} → Shows (StackJudged es c) stackAs r → Shows (StackJudged es c) stackAs r′
+      → r ≡ r′
+  register-judge-stack-unique (x, (p, e)) (y, (q, f)) = e ∙ ap stackAs (stack-judged-unique p q) ∙ sym f
 
-pub register-judge-strips-unique : {st : Stack} {l : List ℕ} {r r′ : StripsAnswer} → Shows st (λ es. StripsAnswered es l) stripsAs r
-    → Shows st (λ es. StripsAnswered es l) stripsAs r′ → r ≡ r′
-register-judge-strips-unique {st} {l} (x, (p, e)) (y, (q, f)) = e ∙ ap stripsAs (judge-strips-unique st l p q) ∙ sym f
+  pub register-judge-strips-unique : {l : List ℕ} {r r′ : StripsAnswer} → Shows (StripsAnswered es l) stripsAs r
+      → Shows (StripsAnswered es l) stripsAs r′ → r ≡ r′
+  register-judge-strips-unique (x, (p, e)) (y, (q, f)) = e ∙ ap stripsAs (strips-answered-unique p q) ∙ sym f
 
-module _ {st : Stack} {c : List ℤ} {l : List ℕ} where
-  pub register-volume-unique : {r r′ : Answer} → Shows st (λ es. Measured es c l) volumedAs r
-      → Shows st (λ es. Measured es c l) volumedAs r′ → r ≡ r′
-  register-volume-unique (x, (p, e)) (y, (q, f)) = e ∙ ap volumedAs (volume-unique st c l p q) ∙ sym f
+module _ {es : List Layer} {c : List ℤ} {l : List ℕ} where
+  pub register-volume-unique : {r r′ : Answer} → Shows (Measured es c l) volumedAs r → Shows (Measured es c l) volumedAs r′ → r ≡ r′
+  register-volume-unique (x, (p, e)) (y, (q, f)) = e ∙ ap volumedAs (measured-once p q) ∙ sym f
 
-  pub register-triangles-unique : {out new old : List ℕ} {r r′ : MeshAnswer} → Shows st (λ es. Triangled es c l out new) meshedAs r
-      → Shows st (λ es. Triangled es c l out old) meshedAs r′ → (new ≡ old) × (r ≡ r′)
-  register-triangles-unique {out = out} (x, (p, e)) (y, (q, f)) =
-      let same = triangled-unique st c l out p q in (same .0, e ∙ ap meshedAs (same .1) ∙ sym f)
+  pub register-triangles-unique : {out new old : List ℕ} {r r′ : MeshAnswer} → Shows (Triangled es c l out new) meshedAs r
+      → Shows (Triangled es c l out old) meshedAs r′ → (new ≡ old) × (r ≡ r′)
+  register-triangles-unique (x, (p, e)) (y, (q, f)) = let same = triangled-once p q in (same .0, e ∙ ap meshedAs (same .1) ∙ sym f)
 
-  pub register-best-strips-unique : {work s s′ w w′ : List ℕ} {r r′ : StepsAnswer}
-      → Shows st (λ es. BandsAnswer es c l work s w) bandedAs r → Shows st (λ es. BandsAnswer es c l work s′ w′) bandedAs r′
-      → Same r r′ s s′ w w′
-  register-best-strips-unique {work = work} (x, (p, e)) (y, (q, f)) = same-shown bandedAs (best-strips-unique st c l work p q) e f
+  pub register-best-strips-unique : {work s s′ w w′ : List ℕ} {r r′ : StepsAnswer} → Shows (BandsAnswer es c l work s w) bandedAs r
+      → Shows (BandsAnswer es c l work s′ w′) bandedAs r′ → Same r r′ s s′ w w′
+  register-best-strips-unique (x, (p, e)) (y, (q, f)) = same-shown bandedAs (bands-unique p q) e f
 
--- ---- the register file and the listing
+  -- ---- the register file and the listing
 
-pub register-write-unique : {st : Stack} {c : List ℤ} {l out new old : List ℕ} {r r′ : BytesAnswer} → Shows st (λ es. WriteAnswer es c l out new) writtenAs r
-    → Shows st (λ es. WriteAnswer es c l out old) writtenAs r′ → (new ≡ old) × (r ≡ r′)
-register-write-unique {st} {c} {l} {out} (x, (p, e)) (y, (q, f)) =
-    let same = write-unique st c l out p q in (same .0, e ∙ ap writtenAs (same .1) ∙ sym f)
+  pub register-write-unique : {out new old : List ℕ} {r r′ : BytesAnswer} → Shows (WriteAnswer es c l out new) writtenAs r
+      → Shows (WriteAnswer es c l out old) writtenAs r′ → (new ≡ old) × (r ≡ r′)
+  register-write-unique (x, (p, e)) (y, (q, f)) = let same = write-once p q in (same .0, e ∙ ap writtenAs (same .1) ∙ sym f)
 
-pub register-listing-unique : {t out new old : List ℕ} {r r′ : BytesAnswer} → ((x : Listed) × (ListingAnswer t out new x × (r ≡ listedAs x)))
-    → ((x : Listed) × (ListingAnswer t out old x × (r′ ≡ listedAs x))) → (new ≡ old) × (r ≡ r′)
+-- the answer, and the entries, the coordinates and the strips that are lent
+pub register-read-unique : (f : List ℕ) (es d d′ : List Layer) (c : List ℤ) (l : List ℕ) {b b′ : List ℤ} {m m′ : List ℕ} {r r′ : FileAnswer}
+    → Shows (ReadAnswer f (lentEntries es c l) (lentEntries d b m)) readAs r
+    → Shows (ReadAnswer f (lentEntries es c l) (lentEntries d′ b′ m′)) readAs r′ → (r ≡ r′) × entries.Same d d′ b b′ m m′
+register-read-unique f es d d′ c l (x, (p, e)) (y, (q, g)) =
+    let same = read-once f es c l d d′ p q in (e ∙ ap readAs (same .0) ∙ sym g, same .1)
+
+pub register-listing-unique : {t out new old : List ℕ} {r r′ : BytesAnswer} → Shows (ListingAnswer t out new) listedAs r
+    → Shows (ListingAnswer t out old) listedAs r′ → (new ≡ old) × (r ≡ r′)
 register-listing-unique (x, (p, e)) (y, (q, f)) = let same = answer-unique p q in (same .1, e ∙ ap listedAs (same .0) ∙ sym f)
-
-pub register-read-unique : {f : List ℕ} {x y z : Lent} {r r′ : FileAnswer} → ((b : ReadBack) × (ReadAnswer f x y b × (r ≡ readAs b)))
-    → ((b : ReadBack) × (ReadAnswer f x z b × (r′ ≡ readAs b))) → (y ≡ z) × (r ≡ r′)
-register-read-unique (b, (p, e)) (d, (q, f)) = let same = read-unique p q in (same .0, e ∙ ap readAs (same .1) ∙ sym f)

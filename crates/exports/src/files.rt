@@ -6,14 +6,17 @@ ghost use Rattle.stack.specs.Gathered.{Gathers};
 ghost use Rattle.register.specs.declared.Written.{Written};
 ghost use Rattle.register.specs.declared.ReadBack.{ReadBack};
 ghost use Rattle.register.specs.Writing.{WriteAnswer};
-ghost use Rattle.register.specs.Reading.{lent, ReadAnswer};
+ghost use Rattle.register.specs.Reading.{ReadAnswer};
+ghost use Rattle.entries.specs.Reading.{lentEntries};
 ghost use Rattle.listing.specs.declared.Listed.{Listed};
 ghost use Rattle.listing.specs.Listing.{ListingAnswer};
 ghost use Rattle.exports.specs.Files.{writtenAs, readAs, listedAs};
+use entries::gather;
 use fault::number;
 use listing::Listed;
 use register::ReadBack;
 use register::Written;
+use stack::Layer;
 use stack::Stack;
 
 // The number of bytes that were written, or a refusal.
@@ -37,11 +40,18 @@ pub struct FileAnswer {
 // The register file of a stack with its strips, at the front of `out`.
 #[no_mangle]
 pub extern "C" fn register_write(
-    stack: Stack,
+    layers: &[Layer],
     coords: &[i32],
     strips: &[u8],
     out: &mut [u8],
 ) -> BytesAnswer
+    ensures { λ r. ⌜ ((x : Written) × (WriteAnswer (now (layers .entry)) (now (coords .entry)) (now (strips .entry)) (now (out .entry))
+        (now (out .exit)) x × (r ≡ writtenAs x))) ⌝ }
+{
+    file_written(gather(layers), coords, strips, out)
+}
+
+fn file_written(stack: Stack, coords: &[i32], strips: &[u8], out: &mut [u8]) -> BytesAnswer
     ensures { λ r. ⌜ ((x : Written) × (((es : List Layer) → Gathers stack es
         → WriteAnswer es (now (coords .entry)) (now (strips .entry)) (now (out .entry)) (now (out .exit)) x) × (r ≡ writtenAs x))) ⌝ }
 {
@@ -62,21 +72,25 @@ pub extern "C" fn register_write(
     }
 }
 
-// A register file, read: planes, first points and numbers of points of its layers, coordinates and strips at the front of each slice.
+// A register file, read: the entries of its layers, its coordinates and its strips, each at the front of its slice.
 #[no_mangle]
 pub extern "C" fn register_read(
     file: &[u8],
-    planes: &mut [i32],
-    firsts: &mut [usize],
-    counts: &mut [usize],
+    layers: &mut [Layer],
     coords: &mut [i32],
     strips: &mut [u8],
 ) -> FileAnswer
     ensures { λ r. ⌜ ((x : ReadBack) × (ReadAnswer (now (file .entry))
-        (lent (now (planes .entry)) (now (firsts .entry)) (now (counts .entry)) (now (coords .entry)) (now (strips .entry)))
-        (lent (now (planes .exit)) (now (firsts .exit)) (now (counts .exit)) (now (coords .exit)) (now (strips .exit))) x × (r ≡ readAs x))) ⌝ }
+        (lentEntries (now (layers .entry)) (now (coords .entry)) (now (strips .entry)))
+        (lentEntries (now (layers .exit)) (now (coords .exit)) (now (strips .exit))) x × (r ≡ readAs x))) ⌝ }
 {
-    match register::read(file, planes, firsts, counts, coords, strips) {
+    read_shown(entries::read(file, layers, coords, strips))
+}
+
+fn read_shown(answer: ReadBack) -> FileAnswer
+    ensures { λ r. ⌜ r ≡ readAs answer ⌝ }
+{
+    match answer {
         ReadBack::Whole {
             layers,
             points,

@@ -1,4 +1,4 @@
-// The entry points for a stack and its strips.
+// The entry points for a stack and its strips. Each gathers the lent entries and calls a function on the stack, which is passed by value.
 ghost use mathlib.Core.Path.{_≡_};
 ghost use mathlib.Core.List.{List};
 ghost use Rattle.stack.specs.declared.Layer.{Layer};
@@ -17,9 +17,11 @@ use crate::Answer;
 use crate::found;
 use crate::refused;
 use bands::Banded;
+use entries::gather;
 use fault::number;
 use mesh::Meshed;
 use mesh::Volumed;
+use stack::Layer;
 use stack::Stack;
 use stack::StackJudgement;
 use stack::StripsJudgement;
@@ -59,7 +61,13 @@ pub struct MeshAnswer {
 
 // The judgement of a stack.
 #[no_mangle]
-pub extern "C" fn register_judge_stack(stack: Stack, coords: &[i32]) -> StackAnswer
+pub extern "C" fn register_judge_stack(layers: &[Layer], coords: &[i32]) -> StackAnswer
+    ensures { λ r. ⌜ ((x : StackJudgement) × (StackJudged (now (layers .entry)) (now (coords .entry)) x × (r ≡ stackAs x))) ⌝ }
+{
+    stack_judged(gather(layers), coords)
+}
+
+fn stack_judged(stack: Stack, coords: &[i32]) -> StackAnswer
     ensures { λ r. ⌜ ((x : StackJudgement) × (((es : List Layer) → Gathers stack es
         → StackJudged es (now (coords .entry)) x) × (r ≡ stackAs x))) ⌝ }
 {
@@ -84,7 +92,13 @@ pub extern "C" fn register_judge_stack(stack: Stack, coords: &[i32]) -> StackAns
 
 // The judgement of a stack's strips.
 #[no_mangle]
-pub extern "C" fn register_judge_strips(stack: Stack, strips: &[u8]) -> StripsAnswer
+pub extern "C" fn register_judge_strips(layers: &[Layer], strips: &[u8]) -> StripsAnswer
+    ensures { λ r. ⌜ ((x : StripsJudgement) × (StripsAnswered (now (layers .entry)) (now (strips .entry)) x × (r ≡ stripsAs x))) ⌝ }
+{
+    strips_judged(gather(layers), strips)
+}
+
+fn strips_judged(stack: Stack, strips: &[u8]) -> StripsAnswer
     ensures { λ r. ⌜ ((x : StripsJudgement) × (((es : List Layer) → Gathers stack es
         → StripsAnswered es (now (strips .entry)) x) × (r ≡ stripsAs x))) ⌝ }
 {
@@ -106,11 +120,18 @@ pub extern "C" fn register_judge_strips(stack: Stack, strips: &[u8]) -> StripsAn
 // The first best strip of every band, at the front of `strips`.
 #[no_mangle]
 pub extern "C" fn register_best_strips(
-    stack: Stack,
+    layers: &[Layer],
     coords: &[i32],
     strips: &mut [u8],
     work: &mut [u8],
 ) -> StepsAnswer
+    ensures { λ r. ⌜ ((x : Banded) × (BandsAnswer (now (layers .entry)) (now (coords .entry)) (now (strips .entry))
+        (now (work .entry)) (now (strips .exit)) (now (work .exit)) x × (r ≡ bandedAs x))) ⌝ }
+{
+    strips_filled(gather(layers), coords, strips, work)
+}
+
+fn strips_filled(stack: Stack, coords: &[i32], strips: &mut [u8], work: &mut [u8]) -> StepsAnswer
     ensures { λ r. ⌜ ((x : Banded) × (((es : List Layer) → Gathers stack es
         → BandsAnswer es (now (coords .entry)) (now (strips .entry)) (now (work .entry)) (now (strips .exit)) (now (work .exit)) x)
         × (r ≡ bandedAs x))) ⌝ }
@@ -134,7 +155,13 @@ pub extern "C" fn register_best_strips(
 
 // Six times the volume.
 #[no_mangle]
-pub extern "C" fn register_volume(stack: Stack, coords: &[i32], strips: &[u8]) -> Answer
+pub extern "C" fn register_volume(layers: &[Layer], coords: &[i32], strips: &[u8]) -> Answer
+    ensures { λ r. ⌜ ((x : Volumed) × (Measured (now (layers .entry)) (now (coords .entry)) (now (strips .entry)) x × (r ≡ volumedAs x))) ⌝ }
+{
+    volume_found(gather(layers), coords, strips)
+}
+
+fn volume_found(stack: Stack, coords: &[i32], strips: &[u8]) -> Answer
     ensures { λ r. ⌜ ((x : Volumed) × (((es : List Layer) → Gathers stack es
         → Measured es (now (coords .entry)) (now (strips .entry)) x) × (r ≡ volumedAs x))) ⌝ }
 {
@@ -147,11 +174,18 @@ pub extern "C" fn register_volume(stack: Stack, coords: &[i32], strips: &[u8]) -
 // The closed triangle list, at the front of `out`, and six times its volume.
 #[no_mangle]
 pub extern "C" fn register_triangles(
-    stack: Stack,
+    layers: &[Layer],
     coords: &[i32],
     strips: &[u8],
     out: &mut [u32],
 ) -> MeshAnswer
+    ensures { λ r. ⌜ ((x : Meshed) × (Triangled (now (layers .entry)) (now (coords .entry)) (now (strips .entry)) (now (out .entry))
+        (now (out .exit)) x × (r ≡ meshedAs x))) ⌝ }
+{
+    list_closed(gather(layers), coords, strips, out)
+}
+
+fn list_closed(stack: Stack, coords: &[i32], strips: &[u8], out: &mut [u32]) -> MeshAnswer
     ensures { λ r. ⌜ ((x : Meshed) × (((es : List Layer) → Gathers stack es
         → Triangled es (now (coords .entry)) (now (strips .entry)) (now (out .entry)) (now (out .exit)) x) × (r ≡ meshedAs x))) ⌝ }
 {

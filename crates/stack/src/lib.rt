@@ -21,6 +21,7 @@ use trace::Judgement;
 use trace::in_range;
 
 // One layer: its plane, its first point in the common list, and its number of points.
+#[repr(C)]
 pub struct Layer {
     pub plane: i32,
     pub first: usize,

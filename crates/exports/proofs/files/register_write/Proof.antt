@@ -1,55 +1,40 @@
--- `exports::files::register_write` meets its contract: what the function that it calls answers is shown. Assumes nothing.
-use mathlib.Core.Path.{sym, ap, _∙_}
-use Prim.Native.Nat.{ℕ}
+-- `exports::files::register_write` meets its contract: one of the functions that entries/proofs/Thin/TwoSharedOneMut.antt walks, over
+-- `file_written`. Assumes nothing.
+use mathlib.Core.Path.{_≡_}
+use mathlib.Core.List.{List, [], _∷_}
+use contract.Running.{givenOf}
+use denote.Builtin.{u8, i32}
+use denote.Struct.Laws as LL
+use Rattle.stack.specs.declared.Layer.{Layer}
+use Rattle.stack.specs.Gathered.{Gathers}
+use Rattle.register.specs.declared.Written.{Written}
+use Rattle.register.specs.Writing.{WriteAnswer}
 use Rattle.exports.specs.Files.{writtenAs}
-use borrow.Author.Needs.{needs}
-use Rattle.exports.proofs.files.register_write.Statement.{statement}
-use Rattle.exports.proofs.files.register_write.Tie as tie
+use Rattle.entries.proofs.Thin.TwoSharedOneMut.{Thin, proved}
+use Rattle.exports.proofs.files.BytesAnswer as S
+use Rattle.exports.proofs.files.BytesAnswer.Laws as S′
+use Rattle.exports.proofs.files.file_written.Symbol as callee-def
+use Rattle.exports.proofs.files.file_written.Met as callee-thm
+use Rattle.exports.proofs.files.register_write.Key.{name as #this}
+use Rattle.exports.proofs.files.register_write.Statement as stated
+use Rattle.exports.proofs.files.register_write.Code as code
 
-write-requires : tie.Need-write-requires
-write-requires c κs = search needs
+abbrev this : Thin
+this = record {
+  first = i32;
+  second = u8;
+  out = u8;
+  result = S.the-row;
+  mir = S′.mir;
+  callee = callee-def.name;
+  Said = λ st c l old new r. (x : Written) × (((es : List Layer) → Gathers st es → WriteAnswer es c l old new x) × (r ≡ writtenAs x));
+  Holds = λ es c l old new r. (x : Written) × (WriteAnswer es c l old new x × (r ≡ writtenAs x));
+  so = λ st es c l old new r g said. (said .0, (said .1 .0 es g, said .1 .1));
+}
 
-enum-known-bytes : tie.Need-enum-known-bytes
-enum-known-bytes c = search needs
-
-enum-known-refusal : tie.Need-enum-known-refusal
-enum-known-refusal c = search needs
-
-number-requires : tie.Need-number-requires
-number-requires c κs = search needs
-
-same-length : tie.Need-same-length
-same-length c = search needs
-
-returns : tie.Need-returns
-returns c =
-    let called = c .before .before .before .before .before .write in
-    (called .result, (called .ensures, sym (ap writtenAs (c .before .bytes .given .1))))
-
-same-length-2 : tie.Need-same-length-2
-same-length-2 c = search needs
-
-returns-2 : tie.Need-returns-2
-returns-2 c =
-    let called = c .before .before .before .before .before .before .write in
-    let refusal = c .before .before .refusal .given in (
-      called .result,
-      (
-        called .ensures,
-        ap (λ (k : ℕ). record { number = k; place = refusal .0 .0 .place; bytes = 0 }) (c .number .ensures)
-            ∙ sym (ap writtenAs (refusal .1)),
-      ),
-    )
-
-pub register-write-spec : {M : Type 1} → statement M
-register-write-spec =
-    tie.close
-    (tie.spec
-    write-requires
-    enum-known-bytes
-    enum-known-refusal
-    number-requires
-    same-length
-    returns
-    same-length-2
-    returns-2)
+pub register-write-spec : {M : Type 1} → stated.statement M
+unfolding code.routine
+register-write-spec 𝓤 H 𝓜 𝓖 𝓡 =
+    proved this 𝓤 H 𝓜 𝓖 𝓡 (λ r u is. LL.lawful S.the-type S′.the-laws 𝓤 H (𝓖 .A) (givenOf 𝓤 H 𝓜 𝓖) .typed r (u ∷ []) is .0) code.env
+    #this (code.unfolded 𝓤 H 𝓜 𝓡) code.calls-entries·gather callee-def.routine code.calls-exports·files·file-written
+    (callee-thm.met 𝓤 H 𝓜 𝓖 𝓡)

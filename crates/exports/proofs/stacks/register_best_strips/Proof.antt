@@ -1,63 +1,40 @@
--- `exports::stacks::register_best_strips` meets its contract: what the function that it calls answers is shown. Assumes nothing.
-use mathlib.Core.Path.{sym, ap, _∙_}
-use Prim.Native.Nat.{ℕ}
+-- `exports::stacks::register_best_strips` meets its contract: one of the functions that entries/proofs/Thin/OneSharedTwoMut.antt walks, over
+-- `strips_filled`. Assumes nothing.
+use mathlib.Core.Path.{_≡_}
+use mathlib.Core.List.{List, [], _∷_}
+use contract.Running.{givenOf}
+use denote.Builtin.{u8, i32}
+use denote.Struct.Laws as LL
+use Rattle.stack.specs.declared.Layer.{Layer}
+use Rattle.stack.specs.Gathered.{Gathers}
+use Rattle.bands.specs.declared.Banded.{Banded}
+use Rattle.bands.specs.Bands.{BandsAnswer}
 use Rattle.exports.specs.Stacks.{bandedAs}
-use borrow.Author.Needs.{needs}
-use Rattle.exports.proofs.stacks.register_best_strips.Statement.{statement}
-use Rattle.exports.proofs.stacks.register_best_strips.Tie as tie
+use Rattle.entries.proofs.Thin.OneSharedTwoMut.{Thin, proved}
+use Rattle.exports.proofs.stacks.StepsAnswer as S
+use Rattle.exports.proofs.stacks.StepsAnswer.Laws as S′
+use Rattle.exports.proofs.stacks.strips_filled.Symbol as callee-def
+use Rattle.exports.proofs.stacks.strips_filled.Met as callee-thm
+use Rattle.exports.proofs.stacks.register_best_strips.Key.{name as #this}
+use Rattle.exports.proofs.stacks.register_best_strips.Statement as stated
+use Rattle.exports.proofs.stacks.register_best_strips.Code as code
 
-best-strips-requires : tie.Need-best-strips-requires
-best-strips-requires c κs = search needs
+abbrev this : Thin
+this = record {
+  first = i32;
+  out = u8;
+  work = u8;
+  result = S.the-row;
+  mir = S′.mir;
+  callee = callee-def.name;
+  Said = λ st c l w l′ w′ r. (x : Banded) × (((es : List Layer) → Gathers st es → BandsAnswer es c l w l′ w′ x) × (r ≡ bandedAs x));
+  Holds = λ es c l w l′ w′ r. (x : Banded) × (BandsAnswer es c l w l′ w′ x × (r ≡ bandedAs x));
+  so = λ st es c l w l′ w′ r g said. (said .0, (said .1 .0 es g, said .1 .1));
+}
 
-enum-known-steps : tie.Need-enum-known-steps
-enum-known-steps c = search needs
-
-enum-known-refusal : tie.Need-enum-known-refusal
-enum-known-refusal c = search needs
-
-number-requires : tie.Need-number-requires
-number-requires c κs = search needs
-
-same-length : tie.Need-same-length
-same-length c = search needs
-
-same-length-2 : tie.Need-same-length-2
-same-length-2 c = search needs
-
-returns : tie.Need-returns
-returns c =
-    let called = c .before .before .before .before .before .before .before .best-strips in
-    (called .result, (called .ensures, sym (ap bandedAs (c .before .steps .given .1))))
-
-same-length-3 : tie.Need-same-length-3
-same-length-3 c = search needs
-
-same-length-4 : tie.Need-same-length-4
-same-length-4 c = search needs
-
-returns-2 : tie.Need-returns-2
-returns-2 c =
-    let called = c .before .before .before .before .before .before .before .before .best-strips in
-    let refusal = c .before .before .refusal .given in (
-      called .result,
-      (
-        called .ensures,
-        ap (λ (k : ℕ). record { number = k; place = refusal .0 .0 .place; steps = 0 }) (c .number .ensures)
-            ∙ sym (ap bandedAs (refusal .1)),
-      ),
-    )
-
-pub register-best-strips-spec : {M : Type 1} → statement M
-register-best-strips-spec =
-    tie.close
-    (tie.spec
-    best-strips-requires
-    enum-known-steps
-    enum-known-refusal
-    number-requires
-    same-length
-    same-length-2
-    returns
-    same-length-3
-    same-length-4
-    returns-2)
+pub register-best-strips-spec : {M : Type 1} → stated.statement M
+unfolding code.routine
+register-best-strips-spec 𝓤 H 𝓜 𝓖 𝓡 =
+    proved this 𝓤 H 𝓜 𝓖 𝓡 (λ r u is. LL.lawful S.the-type S′.the-laws 𝓤 H (𝓖 .A) (givenOf 𝓤 H 𝓜 𝓖) .typed r (u ∷ []) is .0) code.env
+    #this (code.unfolded 𝓤 H 𝓜 𝓡) code.calls-entries·gather callee-def.routine code.calls-exports·stacks·strips-filled
+    (callee-thm.met 𝓤 H 𝓜 𝓖 𝓡)

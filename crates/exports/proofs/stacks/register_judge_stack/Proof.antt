@@ -1,47 +1,38 @@
--- `exports::stacks::register_judge_stack` meets its contract: what the function that it calls answers is shown. Assumes nothing.
-use mathlib.Core.Path.{sym, ap, _∙_}
-use Prim.Native.Nat.{ℕ}
+-- `exports::stacks::register_judge_stack` meets its contract: one of the functions that entries/proofs/Thin/OneShared.antt walks, over
+-- `stack_judged`. Assumes nothing.
+use mathlib.Core.Path.{_≡_}
+use mathlib.Core.List.{List, [], _∷_}
+use contract.Running.{givenOf}
+use denote.Builtin.{i32}
+use denote.Struct.Laws as LL
+use Rattle.stack.specs.declared.Layer.{Layer}
+use Rattle.stack.specs.Gathered.{Gathers}
+use Rattle.stack.specs.declared.StackJudgement.{StackJudgement}
+use Rattle.stack.specs.Faults.{StackJudged}
 use Rattle.exports.specs.Stacks.{stackAs}
-use borrow.Author.Needs.{needs}
-use Rattle.exports.proofs.stacks.register_judge_stack.Statement.{statement}
-use Rattle.exports.proofs.stacks.register_judge_stack.Tie as tie
+use Rattle.entries.proofs.Thin.OneShared.{Thin, proved}
+use Rattle.exports.proofs.stacks.StackAnswer as S
+use Rattle.exports.proofs.stacks.StackAnswer.Laws as S′
+use Rattle.exports.proofs.stacks.stack_judged.Symbol as callee-def
+use Rattle.exports.proofs.stacks.stack_judged.Met as callee-thm
+use Rattle.exports.proofs.stacks.register_judge_stack.Key.{name as #this}
+use Rattle.exports.proofs.stacks.register_judge_stack.Statement as stated
+use Rattle.exports.proofs.stacks.register_judge_stack.Code as code
 
-judge-stack-requires : tie.Need-judge-stack-requires
-judge-stack-requires c κs = search needs
+abbrev this : Thin
+this = record {
+  element = i32;
+  result = S.the-row;
+  mir = S′.mir;
+  callee = callee-def.name;
+  Said = λ st c r. (x : StackJudgement) × (((es : List Layer) → Gathers st es → StackJudged es c x) × (r ≡ stackAs x));
+  Holds = λ es c r. (x : StackJudgement) × (StackJudged es c x × (r ≡ stackAs x));
+  so = λ st es c r g said. (said .0, (said .1 .0 es g, said .1 .1));
+}
 
-enum-known-points : tie.Need-enum-known-points
-enum-known-points c = search needs
-
-enum-known-refusal : tie.Need-enum-known-refusal
-enum-known-refusal c = search needs
-
-number-requires : tie.Need-number-requires
-number-requires c κs = search needs
-
-returns : tie.Need-returns
-returns c =
-    let called = c .before .before .before .judge-stack in
-    (called .result, (called .ensures, sym (ap stackAs (c .before .points .given .1))))
-
-returns-2 : tie.Need-returns-2
-returns-2 c =
-    let called = c .before .before .before .before .judge-stack in
-    let refusal = c .before .before .refusal .given in (
-      called .result,
-      (
-        called .ensures,
-        ap (λ (k : ℕ). record { number = k; place = refusal .0 .0 .place; points = 0; steps = 0 }) (c .number .ensures)
-            ∙ sym (ap stackAs (refusal .1)),
-      ),
-    )
-
-pub register-judge-stack-spec : {M : Type 1} → statement M
-register-judge-stack-spec =
-    tie.close
-    (tie.spec
-    judge-stack-requires
-    enum-known-points
-    enum-known-refusal
-    number-requires
-    returns
-    returns-2)
+pub register-judge-stack-spec : {M : Type 1} → stated.statement M
+unfolding code.routine
+register-judge-stack-spec 𝓤 H 𝓜 𝓖 𝓡 =
+    proved this 𝓤 H 𝓜 𝓖 𝓡 (λ r u is. LL.lawful S.the-type S′.the-laws 𝓤 H (𝓖 .A) (givenOf 𝓤 H 𝓜 𝓖) .typed r (u ∷ []) is .0) code.env
+    #this (code.unfolded 𝓤 H 𝓜 𝓡) code.calls-entries·gather callee-def.routine code.calls-exports·stacks·stack-judged
+    (callee-thm.met 𝓤 H 𝓜 𝓖 𝓡)

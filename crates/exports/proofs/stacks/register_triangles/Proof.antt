@@ -1,66 +1,40 @@
--- `exports::stacks::register_triangles` meets its contract: what the function that it calls answers is shown. Assumes nothing.
-use mathlib.Core.Path.{sym, ap, _∙_}
-use Prim.Native.Nat.{ℕ}
-use lib.IntN.{ℤ, pos}
-use mir.Syntax.{w64}
-use Rattle.whole.proofs.Machine.{read-back}
-use Rattle.mesh.specs.declared.Meshed.the-variants.{Closed}
+-- `exports::stacks::register_triangles` meets its contract: one of the functions that entries/proofs/Thin/TwoSharedOneMut.antt walks, over
+-- `list_closed`. Assumes nothing.
+use mathlib.Core.Path.{_≡_}
+use mathlib.Core.List.{List, [], _∷_}
+use contract.Running.{givenOf}
+use denote.Builtin.{u8, u32, i32}
+use denote.Struct.Laws as LL
+use Rattle.stack.specs.declared.Layer.{Layer}
+use Rattle.stack.specs.Gathered.{Gathers}
+use Rattle.mesh.specs.declared.Meshed.{Meshed}
+use Rattle.mesh.specs.Meshing.{Triangled}
 use Rattle.exports.specs.Stacks.{meshedAs}
-use borrow.Author.Needs.{needs}
-use Rattle.exports.proofs.stacks.register_triangles.Statement.{statement}
-use Rattle.exports.proofs.stacks.register_triangles.Tie as tie
+use Rattle.entries.proofs.Thin.TwoSharedOneMut.{Thin, proved}
+use Rattle.exports.proofs.stacks.MeshAnswer as S
+use Rattle.exports.proofs.stacks.MeshAnswer.Laws as S′
+use Rattle.exports.proofs.stacks.list_closed.Symbol as callee-def
+use Rattle.exports.proofs.stacks.list_closed.Met as callee-thm
+use Rattle.exports.proofs.stacks.register_triangles.Key.{name as #this}
+use Rattle.exports.proofs.stacks.register_triangles.Statement as stated
+use Rattle.exports.proofs.stacks.register_triangles.Code as code
 
-triangles-requires : tie.Need-triangles-requires
-triangles-requires c κs = search needs
+abbrev this : Thin
+this = record {
+  first = i32;
+  second = u8;
+  out = u32;
+  result = S.the-row;
+  mir = S′.mir;
+  callee = callee-def.name;
+  Said = λ st c l old new r. (x : Meshed) × (((es : List Layer) → Gathers st es → Triangled es c l old new x) × (r ≡ meshedAs x));
+  Holds = λ es c l old new r. (x : Meshed) × (Triangled es c l old new x × (r ≡ meshedAs x));
+  so = λ st es c l old new r g said. (said .0, (said .1 .0 es g, said .1 .1));
+}
 
-enum-known-triangles : tie.Need-enum-known-triangles
-enum-known-triangles c = search needs
-
-enum-known-refusal : tie.Need-enum-known-refusal
-enum-known-refusal c = search needs
-
-number-requires : tie.Need-number-requires
-number-requires c κs = search needs
-
-same-length : tie.Need-same-length
-same-length c = search needs
-
-returns : tie.Need-returns
-returns c =
-    let called = c .before .before .before .before .before .triangles in
-    let found = c .before .triangles2 .given in (
-      called .result,
-      (
-        called .ensures,
-        ap (λ (z : ℤ). meshedAs (Closed (found .0 .0) z))
-            (read-back w64 (found .0 .1 .0) (c .known-told .given .1 .0 .1)) ∙ sym (ap meshedAs (found .1)),
-      ),
-    )
-
-same-length-2 : tie.Need-same-length-2
-same-length-2 c = search needs
-
-returns-2 : tie.Need-returns-2
-returns-2 c =
-    let called = c .before .before .before .before .before .before .triangles in
-    let refusal = c .before .before .refusal .given in (
-      called .result,
-      (
-        called .ensures,
-        ap (λ (k : ℕ). record { number = k; place = refusal .0 .0 .place; triangles = 0; six = pos 0 }) (c .number .ensures)
-            ∙ sym (ap meshedAs (refusal .1)),
-      ),
-    )
-
-pub register-triangles-spec : {M : Type 1} → statement M
-register-triangles-spec =
-    tie.close
-    (tie.spec
-    triangles-requires
-    enum-known-triangles
-    enum-known-refusal
-    number-requires
-    same-length
-    returns
-    same-length-2
-    returns-2)
+pub register-triangles-spec : {M : Type 1} → stated.statement M
+unfolding code.routine
+register-triangles-spec 𝓤 H 𝓜 𝓖 𝓡 =
+    proved this 𝓤 H 𝓜 𝓖 𝓡 (λ r u is. LL.lawful S.the-type S′.the-laws 𝓤 H (𝓖 .A) (givenOf 𝓤 H 𝓜 𝓖) .typed r (u ∷ []) is .0) code.env
+    #this (code.unfolded 𝓤 H 𝓜 𝓡) code.calls-entries·gather callee-def.routine code.calls-exports·stacks·list-closed
+    (callee-thm.met 𝓤 H 𝓜 𝓖 𝓡)

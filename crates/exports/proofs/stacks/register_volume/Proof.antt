@@ -1,53 +1,39 @@
--- `exports::stacks::register_volume` meets its contract: what the function that it calls answers is shown. Assumes nothing.
-use mathlib.Core.Path.{sym, ap, _∙_}
-use mir.Syntax.{w64}
-use Rattle.whole.proofs.Machine.{read-back}
-use Rattle.exports.specs.Shown.{foundAs}
+-- `exports::stacks::register_volume` meets its contract: one of the functions that entries/proofs/Thin/TwoShared.antt walks, over
+-- `volume_found`. Assumes nothing.
+use mathlib.Core.Path.{_≡_}
+use mathlib.Core.List.{List, [], _∷_}
+use contract.Running.{givenOf}
+use denote.Builtin.{u8, i32}
+use denote.Struct.Laws as LL
+use Rattle.stack.specs.declared.Layer.{Layer}
+use Rattle.stack.specs.Gathered.{Gathers}
+use Rattle.mesh.specs.declared.Volumed.{Volumed}
+use Rattle.mesh.specs.Meshing.{Measured}
 use Rattle.exports.specs.Stacks.{volumedAs}
-use borrow.Author.Needs.{needs}
-use Rattle.exports.proofs.stacks.register_volume.Statement.{statement}
-use Rattle.exports.proofs.stacks.register_volume.Tie as tie
+use Rattle.entries.proofs.Thin.TwoShared.{Thin, proved}
+use Rattle.exports.proofs.Answer as S
+use Rattle.exports.proofs.Answer.Laws as S′
+use Rattle.exports.proofs.stacks.volume_found.Symbol as callee-def
+use Rattle.exports.proofs.stacks.volume_found.Met as callee-thm
+use Rattle.exports.proofs.stacks.register_volume.Key.{name as #this}
+use Rattle.exports.proofs.stacks.register_volume.Statement as stated
+use Rattle.exports.proofs.stacks.register_volume.Code as code
 
-volume-requires : tie.Need-volume-requires
-volume-requires c κs = search needs
+abbrev this : Thin
+this = record {
+  first = i32;
+  second = u8;
+  result = S.the-row;
+  mir = S′.mir;
+  callee = callee-def.name;
+  Said = λ st c l r. (x : Volumed) × (((es : List Layer) → Gathers st es → Measured es c l x) × (r ≡ volumedAs x));
+  Holds = λ es c l r. (x : Volumed) × (Measured es c l x × (r ≡ volumedAs x));
+  so = λ st es c l r g said. (said .0, (said .1 .0 es g, said .1 .1));
+}
 
-enum-known-six : tie.Need-enum-known-six
-enum-known-six c = search needs
-
-found-requires : tie.Need-found-requires
-found-requires c κs = search needs
-
-enum-known-refusal : tie.Need-enum-known-refusal
-enum-known-refusal c = search needs
-
-refused-requires : tie.Need-refused-requires
-refused-requires c κs = search needs
-
-returns : tie.Need-returns
-returns c =
-    let called = c .before .before .before .before .volume in
-    let six = c .before .before .six .given in (
-      called .result,
-      (
-        called .ensures,
-        c .found .ensures ∙ ap foundAs (read-back w64 (six .0 .0) (c .before .known-told .given .0 .1))
-            ∙ sym (ap volumedAs (six .1)),
-      ),
-    )
-
-returns-2 : tie.Need-returns-2
-returns-2 c =
-    let called = c .before .before .before .before .volume in
-    (called .result, (called .ensures, c .refused .ensures ∙ sym (ap volumedAs (c .before .before .refusal .given .1))))
-
-pub register-volume-spec : {M : Type 1} → statement M
-register-volume-spec =
-    tie.close
-    (tie.spec
-    volume-requires
-    enum-known-six
-    found-requires
-    enum-known-refusal
-    refused-requires
-    returns
-    returns-2)
+pub register-volume-spec : {M : Type 1} → stated.statement M
+unfolding code.routine
+register-volume-spec 𝓤 H 𝓜 𝓖 𝓡 =
+    proved this 𝓤 H 𝓜 𝓖 𝓡 (λ r u is. LL.lawful S.the-type S′.the-laws 𝓤 H (𝓖 .A) (givenOf 𝓤 H 𝓜 𝓖) .typed r (u ∷ []) is .0) code.env
+    #this (code.unfolded 𝓤 H 𝓜 𝓡) code.calls-entries·gather callee-def.routine code.calls-exports·stacks·volume-found
+    (callee-thm.met 𝓤 H 𝓜 𝓖 𝓡)
