@@ -9,9 +9,8 @@ use lib.IntN.{ℤ, pos}
 use lib.ListN.{length, getD, take, drop, length-map, length-take}
 use Rattle.stack.specs.declared.Layer.{Layer}
 use Rattle.stack.specs.declared.Stack.{Stack}
-use Rattle.stack.specs.Entries.{noLayer, entry}
+use Rattle.stack.specs.Entries.{noLayer}
 use Rattle.stack.specs.Gathered.{Gathers}
-use Rattle.stack.specs.Laid.{laid}
 use Rattle.stack.proofs.Laying.{laid-only}
 use Rattle.register.specs.declared.ReadBack.{ReadBack}
 use Rattle.register.specs.declared.ReadBack.the-variants as read-is

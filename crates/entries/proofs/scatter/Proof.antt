@@ -3,7 +3,7 @@
 -- entry there and puts it back. Where t turns are left, k entries are written, and k + t is the number that is to be.
 -- A Stack and a Layer are plain, so what they own is made anew. Assumes nothing.
 use mathlib.Core.Path.{_≡_, refl, sym, ap, subst}
-use mathlib.Core.Bool.{Bool, true}
+use mathlib.Core.Bool.{Bool}
 use Prim.Native.Nat.{ℕ, zero, suc, _+_, _*_, _<_, _^_}
 use native.Mathlib.Nat.{lt-suc-self}
 use native.Mathlib.Omega.{arith}
