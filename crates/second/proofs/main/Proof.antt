@@ -54,6 +54,9 @@ size-requires-15 c κs = tt
 size-requires-16 : tie.Need-size-requires-16
 size-requires-16 c κs = tt
 
+stack-rows-requires : tie.Need-stack-rows-requires
+stack-rows-requires c κs = tt
+
 returns : tie.Need-returns
 returns c = omega arith
 
@@ -77,4 +80,5 @@ main-spec =
     size-requires-14
     size-requires-15
     size-requires-16
+    stack-rows-requires
     returns)
