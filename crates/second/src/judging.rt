@@ -1,4 +1,5 @@
-// A trace of a few small points, judged straight from 01's words.
+// A trace judged straight from 01's words.
+use crate::listing::number_at;
 use crate::listing::x;
 use crate::listing::y;
 use crate::numbers::minus;
@@ -39,13 +40,37 @@ pub(crate) fn twice_area(c: &[i32]) -> i64 {
     sum
 }
 
-// 01's number of its fault, or 0. No coordinate here is out of range, and no trace has over 250 points.
+fn is_outside(v: i64) -> bool {
+    if v < -100_000 {
+        return true;
+    }
+    100_000 < v
+}
+
+fn outside(c: &[i32]) -> bool {
+    let mut k = 0;
+    while k < c.len() {
+        if is_outside(number_at(c, k)) {
+            return true;
+        }
+        k += 1;
+    }
+    false
+}
+
+// 01's number of its fault, or 0.
 pub(crate) fn fault_of(c: &[i32]) -> u8 {
     if c.len() % 2 == 1 {
         return 1;
     }
     if c.len() < 6 {
         return 2;
+    }
+    if 500 < c.len() {
+        return 3;
+    }
+    if outside(c) {
+        return 4;
     }
     if equal_neighbours(c) {
         return 5;

@@ -56,11 +56,11 @@ fn steps_b(number: usize, steps: usize) -> usize {
 }
 
 // One more, if so.
-fn with(count: usize, so: bool) -> usize {
+pub(crate) fn with(count: usize, so: bool) -> usize {
     if so { one_more(count) } else { count }
 }
 
-fn number_at(c: &[i32], k: usize) -> i64 {
+pub(crate) fn number_at(c: &[i32], k: usize) -> i64 {
     if k < c.len() { c[k] as i64 } else { 0 }
 }
 

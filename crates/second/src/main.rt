@@ -1,15 +1,31 @@
-// A second implementation of 01 for small pairs, and the program that holds the first to it: strips by listing all of them, traces judged
-// straight from the words, the volume triangle by triangle. It shares no function with the first. A difference would show in the output.
+// A second implementation of 01 for small pairs and small stacks, and the program that holds the first to it: strips by listing all of them,
+// traces and stacks judged straight from the words, the volume triangle by triangle, each corner of the closed list and each byte of the
+// register file from its position alone. It shares no function with the first. Lent memory is filled with a guard before every call, and
+// all of it is looked at afterwards. A difference would show in the output.
 
+mod bests;
+mod closed;
+mod drawing;
+mod file;
+mod filed;
+mod held;
 mod judging;
+mod layers;
+mod lent;
 mod listing;
 mod numbers;
+mod rows;
 mod solid;
+mod stacked;
 mod trial;
+mod words;
 
+use crate::drawing::fill;
 use crate::listing::strips;
 use crate::numbers::another;
 use crate::numbers::one_more;
+use crate::numbers::sum;
+use crate::rows::stack_rows;
 use crate::trial::Pairing;
 use crate::trial::Size;
 use crate::trial::pair_alike;
@@ -40,6 +56,7 @@ fn main() {
     size(6, 4, 35);
     size(6, 5, 42);
     size(6, 6, 49);
+    stack_rows();
 }
 
 // 2,000 pairs of `m` and `n` points, with numbers from -3 to 3 or from -1 to 1: many ties, many traces that cross themselves, flat ones,
@@ -71,7 +88,7 @@ fn one_pair(m: usize, n: usize, cells: usize, seed: u64, tally: Tally) -> Tally 
     }
     let steps = m + n;
     let mut coords = [0i32; 24];
-    fill(&mut coords, seed);
+    fill(&mut coords, seed, false);
     let mut offered = [0u8; 12];
     let pairing = parted(&coords[..2 * steps], 2 * m, cells, &mut offered[..steps]);
     with(tally, pairing)
@@ -92,49 +109,6 @@ fn parted(coords: &[i32], at: usize, cells: usize, offered: &mut [u8]) -> Pairin
     pair_alike(&coords[..at], &coords[at..], coords, size, offered)
 }
 
-fn fill(coords: &mut [i32], seed: u64) {
-    let mut next = seed;
-    let mut k = 0;
-    while k < coords.len() {
-        next = another(next);
-        let number = pick(next, seed % 2 == 0);
-        coords[k] = number;
-        k += 1;
-    }
-}
-
-fn pick(seed: u64, narrow: bool) -> i32 {
-    if narrow {
-        from_one(seed)
-    } else {
-        from_three(seed)
-    }
-}
-
-// From -1 to 1.
-fn from_one(seed: u64) -> i32 {
-    let which = seed / 65_536 % 3;
-    if which == 0 {
-        return -1;
-    }
-    (which - 1) as i32
-}
-
-// From -3 to 3.
-fn from_three(seed: u64) -> i32 {
-    let which = seed / 65_536 % 7;
-    if which < 3 {
-        return if which == 0 {
-            -3
-        } else if which == 1 {
-            -2
-        } else {
-            -1
-        };
-    }
-    (which - 3) as i32
-}
-
 fn with(tally: Tally, pairing: Pairing) -> Tally {
     let listed = pairing.listed;
     Tally {
@@ -151,16 +125,6 @@ fn with(tally: Tally, pairing: Pairing) -> Tally {
             one_more(tally.differ)
         },
     }
-}
-
-fn sum(a: usize, b: usize) -> usize {
-    if 1_000_000_000 < a {
-        return 0;
-    }
-    if 1_000_000_000 < b {
-        return 0;
-    }
-    a + b
 }
 
 fn tell(m: usize, n: usize, tally: Tally) {

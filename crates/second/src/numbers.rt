@@ -1,4 +1,5 @@
 // Whole numbers that stay small: what would be too great is 0, so that nothing can overflow. The numbers tried here never are.
+ghost use Prim.Native.Nat.{_≤_};
 ghost use Rattle.whole.specs.Between.{Within};
 
 fn small(v: i64) -> i64
@@ -32,6 +33,37 @@ pub(crate) fn one_more(count: usize) -> usize {
     } else {
         count
     }
+}
+
+// A sum of counts.
+pub(crate) fn sum(a: usize, b: usize) -> usize {
+    if 1_000_000_000 < a {
+        return 0;
+    }
+    if 1_000_000_000 < b {
+        return 0;
+    }
+    a + b
+}
+
+// What is left of a count.
+pub(crate) fn less(a: usize, b: usize) -> usize {
+    if a < b { 0 } else { a - b }
+}
+
+pub(crate) fn at_most(n: usize, most: usize) -> usize
+    ensures { λ r. ⌜ r ≤ most ⌝ }
+{
+    if n < most { n } else { most }
+}
+
+pub(crate) fn wide(v: i32) -> i64 {
+    v as i64
+}
+
+// A number that is not below zero, without its sign.
+pub(crate) fn unsigned(v: i64) -> u64 {
+    if 0 < v { v as u64 } else { 0 }
 }
 
 // The next of a row of numbers that look random, below 2^31.

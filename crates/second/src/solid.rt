@@ -6,13 +6,13 @@ use crate::numbers::one_more;
 use crate::numbers::plus;
 use crate::numbers::times;
 
-struct Corner {
-    x: i64,
-    y: i64,
-    z: i64,
+pub(crate) struct Corner {
+    pub x: i64,
+    pub y: i64,
+    pub z: i64,
 }
 
-fn point(c: &[i32], i: usize, z: i64) -> Corner {
+pub(crate) fn point(c: &[i32], i: usize, z: i64) -> Corner {
     Corner {
         x: x(c, i),
         y: y(c, i),
@@ -25,7 +25,7 @@ fn term(p: i64, q: i64, s: i64, r: i64, t: i64) -> i64 {
     times(p, minus(times(q, s), times(r, t)))
 }
 
-fn six(u: Corner, v: Corner, w: Corner) -> i64 {
+pub(crate) fn six(u: Corner, v: Corner, w: Corner) -> i64 {
     let first = term(u.x, v.y, w.z, w.y, v.z);
     let second = term(u.y, v.z, w.x, w.z, v.x);
     let third = term(u.z, v.x, w.y, w.x, v.y);

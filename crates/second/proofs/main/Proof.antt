@@ -1,8 +1,6 @@
 -- `second::main` is safe and ends. Assumes nothing.
-use mathlib.Core.Path.{_≡_, sym}
-use Prim.Native.Nat.{_*_, _-_, _≤_}
+use Prim.Native.Nat.{_-_}
 use native.Mathlib.Omega.{arith}
-use lib.ListN.{length}
 use Rattle.second.proofs.main.Statement.{statement}
 use Rattle.second.proofs.main.Tie as tie
 
@@ -54,6 +52,9 @@ size-requires-15 c κs = tt
 size-requires-16 : tie.Need-size-requires-16
 size-requires-16 c κs = tt
 
+stack-rows-requires : tie.Need-stack-rows-requires
+stack-rows-requires c κs = tt
+
 returns : tie.Need-returns
 returns c = omega arith
 
@@ -77,4 +78,5 @@ main-spec =
     size-requires-14
     size-requires-15
     size-requires-16
+    stack-rows-requires
     returns)

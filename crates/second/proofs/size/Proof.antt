@@ -1,8 +1,6 @@
 -- `second::size` is safe and ends. Assumes nothing.
-use mathlib.Core.Path.{_≡_, sym}
-use Prim.Native.Nat.{_*_, _-_, _≤_}
+use Prim.Native.Nat.{_-_, _≤_}
 use native.Mathlib.Omega.{arith}
-use lib.ListN.{length}
 use Rattle.second.proofs.size.Statement.{statement}
 use Rattle.second.proofs.size.Tie as tie
 

@@ -1,7 +1,6 @@
 -- `second::judging::equal_neighbours` is safe and ends. Assumes nothing.
 use Prim.Native.Nat.{_-_, _≤_}
 use native.Mathlib.Omega.{arith}
-use lib.ListN.{length}
 use Rattle.second.proofs.judging.equal_neighbours.Statement.{statement}
 use Rattle.second.proofs.judging.equal_neighbours.Tie as tie
 

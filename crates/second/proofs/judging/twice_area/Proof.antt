@@ -1,7 +1,6 @@
 -- `second::judging::twice_area` is safe and ends. Assumes nothing.
 use Prim.Native.Nat.{_-_, _≤_}
 use native.Mathlib.Omega.{arith}
-use lib.ListN.{length}
 use Rattle.second.proofs.judging.twice_area.Statement.{statement}
 use Rattle.second.proofs.judging.twice_area.Tie as tie
 

@@ -1,7 +1,6 @@
 -- `second::listing::best_from` is safe and ends. Assumes nothing.
 use Prim.Native.Nat.{_-_, _≤_}
 use native.Mathlib.Omega.{arith}
-use lib.ListN.{length}
 use Rattle.second.proofs.listing.best_from.Statement.{statement}
 use Rattle.second.proofs.listing.best_from.Tie as tie
 

@@ -1,7 +1,6 @@
 -- `second::listing::step` is safe and ends. Assumes nothing.
 use Prim.Native.Nat.{_-_, _≤_}
 use native.Mathlib.Omega.{arith}
-use lib.ListN.{length}
 use Rattle.second.proofs.listing.step.Statement.{statement}
 use Rattle.second.proofs.listing.step.Tie as tie
 

@@ -1,7 +1,6 @@
 -- `second::listing::value` is safe and ends. Assumes nothing.
 use Prim.Native.Nat.{_-_, _≤_}
 use native.Mathlib.Omega.{arith}
-use lib.ListN.{length}
 use Rattle.second.proofs.listing.value.Statement.{statement}
 use Rattle.second.proofs.listing.value.Tie as tie
 

@@ -1,14 +1,6 @@
 -- `second::numbers::small` meets its contract. Assumes nothing.
-use mathlib.Core.Path.{_≡_, sym, ap, _∙_, subst}
-use lib.IntN.{ℤ, pos, negsuc}
-use lib.Signed.{ltZ}
-use mir.Syntax.{w64}
-use mir.Val.{toZ, ofZ}
-use mir.ValLaws.{toZ-ofZ}
-use Rattle.whole.specs.Between.{Within}
 use Rattle.whole.proofs.Bounds.{zero-within}
 use Rattle.whole.proofs.Order.{ltZ-false}
-use borrow.Author.Needs.{needs}
 use Rattle.second.proofs.numbers.small.Statement.{statement}
 use Rattle.second.proofs.numbers.small.Tie as tie
 

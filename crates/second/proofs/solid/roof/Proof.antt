@@ -1,7 +1,6 @@
 -- `second::solid::roof` is safe and ends. Assumes nothing.
 use Prim.Native.Nat.{_-_, _≤_}
 use native.Mathlib.Omega.{arith}
-use lib.ListN.{length}
 use Rattle.second.proofs.solid.roof.Statement.{statement}
 use Rattle.second.proofs.solid.roof.Tie as tie
 

@@ -1,16 +1,16 @@
--- `second::fill` is safe and ends. Assumes nothing.
-use mathlib.Core.Path.{_≡_, sym}
-use Prim.Native.Nat.{_*_, _-_, _≤_}
+-- `second::drawing::fill` is safe and ends. Assumes nothing.
+use mathlib.Core.Path.{_≡_}
+use Prim.Native.Nat.{_-_}
 use native.Mathlib.Omega.{arith}
 use lib.ListN.{length, length-set}
-use Rattle.second.proofs.fill.Statement.{statement}
-use Rattle.second.proofs.fill.Tie as tie
+use Rattle.second.proofs.drawing.fill.Statement.{statement}
+use Rattle.second.proofs.drawing.fill.Tie as tie
 
 abbrev Inv-loop : tie.InvT-loop
-Inv-loop coords₀ seed next₀ k₀ coords next k = length coords ≡ length coords₀
+Inv-loop coords₀ seed far next₀ k₀ coords next k = length coords ≡ length coords₀
 
 abbrev μ-loop : tie.MeasureT-loop
-μ-loop coords₀ seed next₀ k₀ coords next k = length coords - k
+μ-loop coords₀ seed far next₀ k₀ coords next k = length coords - k
 
 loop-holds : tie.Need-loop-holds Inv-loop μ-loop
 loop-holds c = omega arith

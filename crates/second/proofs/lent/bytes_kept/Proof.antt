@@ -1,0 +1,47 @@
+-- `second::lent::bytes_kept` is safe and ends. Assumes nothing.
+use Prim.Native.Nat.{_-_, _≤_}
+use native.Mathlib.Omega.{arith}
+use lib.ListN.{length}
+use Rattle.second.proofs.lent.bytes_kept.Statement.{statement}
+use Rattle.second.proofs.lent.bytes_kept.Tie as tie
+
+abbrev Inv-loop : tie.InvT-loop
+Inv-loop bytes from k₀ k = k ≤ k
+
+abbrev μ-loop : tie.MeasureT-loop
+μ-loop bytes from k₀ k = length bytes - k
+
+loop-holds : tie.Need-loop-holds Inv-loop μ-loop
+loop-holds c = omega arith
+
+shared-slice-read-if1 : tie.Need-shared-slice-read-if1 Inv-loop μ-loop
+shared-slice-read-if1 c = omega arith
+
+returns : tie.Need-returns Inv-loop μ-loop
+returns c = omega arith
+
+add-k : tie.Need-add-k Inv-loop μ-loop
+add-k c = omega arith
+
+loop-less : tie.Need-loop-less Inv-loop μ-loop
+loop-less c = omega arith
+
+loop-again : tie.Need-loop-again Inv-loop μ-loop
+loop-again c = omega arith
+
+returns-2 : tie.Need-returns-2 Inv-loop μ-loop
+returns-2 c = omega arith
+
+pub bytes-kept-spec : {M : Type 1} → statement M
+bytes-kept-spec =
+    tie.close
+    (tie.spec
+    Inv-loop
+    μ-loop
+    loop-holds
+    shared-slice-read-if1
+    returns
+    add-k
+    loop-less
+    loop-again
+    returns-2)
