@@ -14,7 +14,7 @@ use Rattle.fault.specs.declared.Fault.the-variants.{Twin, Turn, Strip, Below}
 use Rattle.trace.specs.declared.Judgement.the-variants.{Fit, Unfit}
 use Rattle.trace.specs.Points.{count, px, py, segment, twiceArea}
 use Rattle.trace.specs.Judged.{judged, verdictOf, outAt, twinAt, inRange}
-use Rattle.trace.specs.Pair.{Pair, at}
+use Rattle.trace.specs.Pair.{Pair, at, lower}
 use Rattle.trace.proofs.Exact.{fit-exactly}
 use Rattle.ways.specs.Strip.{Step, A, B, stepsA, stepsB}
 use Rattle.ways.specs.Strip as Ways
@@ -24,7 +24,7 @@ use Rattle.ways.specs.Keppel.{top, pointer, alsoB, trace, traced, maxℤ}
 use Rattle.ways.proofs.Answers.{nothing-greater, first-is-rule-13}
 use Rattle.strip.specs.Worth.{W, worths, worthA, worthB}
 use Rattle.strip.specs.Bytes.{bytes, times, IsStrip}
-use Rattle.strip.specs.Judging.{StripJudged, strip, other}
+use Rattle.strip.specs.Judging.{StripJudged, pair, strip, other}
 use Rattle.strip.specs.declared.Valued.the-variants.{Value, Refused}
 use Rattle.joining.specs.declared.Followed.the-variants as Followed
 use Rattle.joining.specs.Answers.{Enough, HandedIn, NextAnswer, below, noneLeft}
@@ -131,8 +131,11 @@ others-hold =
     (and later-first
     (and (offered later (A ∷ B ∷ A ∷ B ∷ A ∷ B ∷ []) (pairs later later-fit) (of-three (A ∷ B ∷ A ∷ B ∷ A ∷ B ∷ []) refl refl .1) refl)
     (and repeated-twin
+    (and (pair (lower repeated-twin))
     (and turned-turn
-    (and flat-turn none)))))))
+    (and (pair (lower turned-turn))
+    (and flat-turn
+    (and (pair (lower flat-turn)) none))))))))))
 
 -- ---- the whole lists
 

@@ -87,7 +87,8 @@ eight =
     ∷ best T T (A ∷ B ∷ A ∷ B ∷ A ∷ B ∷ [])
     ∷ []
 
--- "T, AAABBB: W = 0, a strip", "T, AAAABB: STRIP", "B of T started one point later .. first best ABABAB, W = 8"; and the traces above
+-- "T, AAABBB: W = 0, a strip", "T, AAAABB: STRIP", "B of T started one point later .. first best ABABAB, W = 8"; and the traces above, alone
+-- and as the lower one of a pair, "place 0"
 abbrev pub others : List Row
 others =
     first T T (B ∷ A ∷ B ∷ A ∷ B ∷ A ∷ [])
@@ -96,8 +97,11 @@ others =
     ∷ first T later (A ∷ B ∷ A ∷ B ∷ A ∷ B ∷ [])
     ∷ offering T later (A ∷ B ∷ A ∷ B ∷ A ∷ B ∷ []) (Value (pos 8))
     ∷ judging repeated (Unfit Twin)
+    ∷ offering repeated T [] (Refused (at Twin 0))
     ∷ judging turned (Unfit Turn)
+    ∷ offering turned T [] (Refused (at Turn 0))
     ∷ judging flat (Unfit Turn)
+    ∷ offering flat T [] (Refused (at Turn 0))
     ∷ []
 
 -- 01's example prints them: "BABABA ABBABA BAABBA ABABBA BABAAB ABBAAB BAABAB ABABAB"
