@@ -45,7 +45,8 @@ struct Found {
     file: bool,
 }
 
-// The counts of a row of stacks, then those of all rows: the files, and how often each number was the refusal.
+// The counts of a row of stacks, then those of all rows: the files, and how often each number was the refusal that is due. One that is due and
+// not given shows among the stacks or files that differ.
 struct Counts {
     tried: usize,
     refused: usize,
@@ -272,7 +273,7 @@ fn tell_number(counts: Counts, n: usize) {
 }
 
 fn tell_numbers(counts: Counts) {
-    io::write_all(STDOUT_FILENO, b"refused by number");
+    io::write_all(STDOUT_FILENO, b"refusals due, by number");
     let mut n = 1;
     while n < 13 {
         tell_number(counts, n);
