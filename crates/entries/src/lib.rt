@@ -1,70 +1,19 @@
-// The entry points over a lent slice of layer entries. Each gathers the entries into a stack, which is passed by value, and calls the
-// function of the same name on it: all that is judged, measured and written is proved there. `read` scatters the stack that it finds.
+// A lent slice of layer entries, taken apart and filled. `gather` takes its entries into a stack, which is passed by value, and `scatter`
+// puts those of a stack into it; all that is judged, measured and written is proved on the stack. `read` scatters the stack that it finds.
 ghost use mathlib.Core.Path.{_≡_};
 ghost use mathlib.Core.List.{List};
 ghost use Prim.Native.Nat.{suc, _<_, min};
 ghost use lib.ListN.{length};
 ghost use Rattle.stack.specs.declared.Layer.{Layer};
 ghost use Rattle.stack.specs.Entries.{entry};
-ghost use Rattle.stack.specs.Faults.{StackJudged};
-ghost use Rattle.stack.specs.Strips.{StripsAnswered};
-ghost use Rattle.bands.specs.Bands.{BandsAnswer};
-ghost use Rattle.mesh.specs.Meshing.{Measured, Triangled};
 ghost use Rattle.register.specs.Reading.{ReadAnswer};
-ghost use Rattle.register.specs.Writing.{WriteAnswer};
 ghost use Rattle.entries.specs.Gathering.{gathered, Gathering};
 ghost use Rattle.entries.specs.Scattered.{written, scattered};
 ghost use Rattle.entries.specs.Reading.{lentEntries, layersRead};
-use bands::Banded;
-use mesh::Meshed;
-use mesh::Volumed;
 use register::ReadBack;
-use register::Written;
 use stack::Layer;
 use stack::Stack;
-use stack::StackJudgement;
-use stack::StripsJudgement;
 use stack::layer_at;
-
-pub fn judge_stack(layers: &[Layer], coords: &[i32]) -> StackJudgement
-    ensures { λ r. ⌜ StackJudged (now (layers .entry)) (now (coords .entry)) r ⌝ }
-{
-    stack::judge_stack(gather(layers), coords)
-}
-
-pub fn judge_strips(layers: &[Layer], strips: &[u8]) -> StripsJudgement
-    ensures { λ r. ⌜ StripsAnswered (now (layers .entry)) (now (strips .entry)) r ⌝ }
-{
-    stack::judge_strips(gather(layers), strips)
-}
-
-pub fn best_strips(layers: &[Layer], coords: &[i32], strips: &mut [u8], work: &mut [u8]) -> Banded
-    ensures { λ r. ⌜ BandsAnswer (now (layers .entry)) (now (coords .entry))
-        (now (strips .entry)) (now (work .entry)) (now (strips .exit)) (now (work .exit)) r ⌝ }
-{
-    bands::best_strips(gather(layers), coords, strips, work)
-}
-
-pub fn volume(layers: &[Layer], coords: &[i32], strips: &[u8]) -> Volumed
-    ensures { λ r. ⌜ Measured (now (layers .entry)) (now (coords .entry)) (now (strips .entry)) r ⌝ }
-{
-    mesh::volume(gather(layers), coords, strips)
-}
-
-pub fn triangles(layers: &[Layer], coords: &[i32], strips: &[u8], out: &mut [u32]) -> Meshed
-    ensures { λ r. ⌜ Triangled (now (layers .entry)) (now (coords .entry)) (now (strips .entry))
-        (now (out .entry)) (now (out .exit)) r ⌝ }
-{
-    mesh::triangles(gather(layers), coords, strips, out)
-}
-
-// The register file of the entries with their strips.
-pub fn write(layers: &[Layer], coords: &[i32], strips: &[u8], out: &mut [u8]) -> Written
-    ensures { λ r. ⌜ WriteAnswer (now (layers .entry)) (now (coords .entry)) (now (strips .entry)) (now (out .entry))
-        (now (out .exit)) r ⌝ }
-{
-    register::write(gather(layers), coords, strips, out)
-}
 
 // The entries of a register file, their coordinates and their strips, each at the front of its slice. Of a refused file nothing is written.
 pub fn read(file: &[u8], layers: &mut [Layer], coords: &mut [i32], strips: &mut [u8]) -> ReadBack

@@ -1,17 +1,18 @@
 -- What one pair of the table computes: the greater of two values and the mark. Assumes nothing.
-use mathlib.Core.Path.{_≡_, refl, ap₂, _∙_}
+use mathlib.Core.Path.{_≡_, refl, ap, ap₂, _∙_}
 use mathlib.Core.Bool.{Bool, true, false}
-use Prim.Native.Nat.{_+_, _*_, _≤_}
+use Prim.Native.Nat.{ℕ, _+_, _*_, _≤_}
 use native.Mathlib.Omega.{arith}
-use lib.IntN.{ℤ, _+ℤ_, _-ℤ_, _*ℤ_}
+use lib.IntN.{ℤ, pos, _+ℤ_}
+use lib.ListN.{getD}
 use lib.Signed.{leZ}
 use mir.Syntax.{w32, w64}
 use mir.Val.{boolByte, toZ, ofZ}
 use Rattle.whole.specs.Between.{Within}
-use Rattle.whole.proofs.Machine.{held, from, plus, minus, times}
+use Rattle.whole.proofs.Machine.{held, from, passed, plus, minus, times}
 use Rattle.ways.specs.Keppel.{maxℤ}
 use Rattle.joining.specs.declared.choice.Choice.{Choice}
-use Rattle.joining.specs.Table.{Chosen}
+use Rattle.joining.specs.Table.{Outline, Bounded, Small, along, Chosen}
 
 pub bool-byte : (t : Bool) → boolByte t ≤ 1
 bool-byte true = omega arith
@@ -30,13 +31,42 @@ pub mark-same : {m n a b : ℤ} → m ≡ a → n ≡ b
     → boolByte (leZ n m) + 2 * boolByte (leZ m n) ≡ boolByte (leZ b a) + 2 * boolByte (leZ a b)
 mark-same p q = ap₂ (λ (x y : ℤ). boolByte (leZ y x) + 2 * boolByte (leZ x y)) p q
 
--- what `via` gives for words that hold the numbers
-pub via-is : {r v ox oy dx dy : ℤ} → Within 1000000000000000 v → Within 100000 ox → Within 100000 oy → Within 200000 dx → Within 200000 dy
-    → r ≡ toZ w64 (ofZ w64 v) +ℤ (toZ w32 (ofZ w32 ox) *ℤ toZ w32 (ofZ w32 dy) -ℤ toZ w32 (ofZ w32 oy) *ℤ toZ w32 (ofZ w32 dx))
-    → r ≡ v +ℤ (ox *ℤ dy -ℤ oy *ℤ dx)
-via-is v a b d e q =
-    q ∙ plus (held w64 (from refl v) tt)
-    (minus (times (held w32 (from refl a) tt) (held w32 (from refl e) tt)) (times (held w32 (from refl b) tt) (held w32 (from refl d) tt))) .is
+-- what a step gives for words that hold the numbers
+pub along-is : {r v ox oy dx dy : ℤ} → Small v ox oy dx dy
+    → r ≡ along (toZ w64 (ofZ w64 v)) (toZ w32 (ofZ w32 ox)) (toZ w32 (ofZ w32 oy)) (toZ w32 (ofZ w32 dx)) (toZ w32 (ofZ w32 dy))
+    → r ≡ along v ox oy dx dy
+along-is s q =
+    q ∙ plus (held w64 (from refl (s .value)) tt)
+    (minus (times (held w32 (from refl (s .x)) tt) (held w32 (from refl (s .dy)) tt)) (times (held w32 (from refl (s .y)) tt) (held w32 (from refl (s .dx)) tt))) .is
+
+-- a value, a point of one outline and a segment of the other
+pub step-small : {v : ℤ} {p q : Outline} → Within 1000000000000000 v → Bounded p → Bounded q → (i j : ℕ)
+    → Small v (getD (p .x) i (pos 0)) (getD (p .y) i (pos 0)) (getD (q .dx) j (pos 0)) (getD (q .dy) j (pos 0))
+step-small h b d i j = record { value = h; x = b .x i; y = b .y i; dx = d .dx j; dy = d .dy j }
+
+-- words that hold small numbers are small
+pub small-point : {v ox oy dx dy : ℤ} → Small v ox oy dx dy → Small v (toZ w32 (ofZ w32 ox)) (toZ w32 (ofZ w32 oy)) dx dy
+small-point s = record { value = s .value; x = passed w32 (s .x) tt; y = passed w32 (s .y) tt; dx = s .dx; dy = s .dy }
+
+pub small-segment : {v ox oy dx dy : ℤ} → Small v ox oy dx dy → Small v ox oy (toZ w32 (ofZ w32 dx)) (toZ w32 (ofZ w32 dy))
+small-segment s = record { value = s .value; x = s .x; y = s .y; dx = passed w32 (s .dx) tt; dy = passed w32 (s .dy) tt }
+
+pub small-words : {v ox oy dx dy : ℤ} → Small v ox oy dx dy
+    → Small (toZ w64 (ofZ w64 v)) (toZ w32 (ofZ w32 ox)) (toZ w32 (ofZ w32 oy)) (toZ w32 (ofZ w32 dx)) (toZ w32 (ofZ w32 dy))
+small-words s = record {
+  value = passed w64 (s .value) tt;
+  x = passed w32 (s .x) tt;
+  y = passed w32 (s .y) tt;
+  dx = passed w32 (s .dx) tt;
+  dy = passed w32 (s .dy) tt;
+}
+
+-- the same steps, from the words back to the numbers
+pub point-is : {r v ox oy dx dy : ℤ} → Small v ox oy dx dy → r ≡ along v (toZ w32 (ofZ w32 ox)) (toZ w32 (ofZ w32 oy)) dx dy → r ≡ along v ox oy dx dy
+point-is {v = v} s q = q ∙ ap (λ (z : ℤ). v +ℤ z) (minus (times (held w32 (from refl (s .x)) tt) (from refl (s .dy))) (times (held w32 (from refl (s .y)) tt) (from refl (s .dx))) .is)
+
+pub segment-is : {r v ox oy dx dy : ℤ} → Small v ox oy dx dy → r ≡ along v ox oy (toZ w32 (ofZ w32 dx)) (toZ w32 (ofZ w32 dy)) → r ≡ along v ox oy dx dy
+segment-is {v = v} s q = q ∙ ap (λ (z : ℤ). v +ℤ z) (minus (times (from refl (s .x)) (held w32 (from refl (s .dy)) tt)) (times (from refl (s .y)) (held w32 (from refl (s .dx)) tt)) .is)
 
 pub chosen-same : {m n a b : ℤ} {c : Choice} → m ≡ a → n ≡ b → Chosen m n c → Chosen a b c
 chosen-same {c = c} p q h = record { best = h .best ∙ ap₂ maxℤ p q; mark = h .mark ∙ mark-same p q }

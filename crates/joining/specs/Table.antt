@@ -36,6 +36,18 @@ pub record Bounded (p : Outline) : Type 0 where
   pub dx : (k : ℕ) → Within 200000 (getD (p .dx) k (pos 0))
   pub dy : (k : ℕ) → Within 200000 (getD (p .dy) k (pos 0))
 
+-- a value, the other side's point and the own segment of a step, none of which can overflow
+pub record Small (v ox oy sx sy : ℤ) : Type 0 where
+  pub value : Within 1000000000000000 v
+  pub x : Within 100000 ox
+  pub y : Within 100000 oy
+  pub dx : Within 200000 sx
+  pub dy : Within 200000 sy
+
+-- the value with that step
+abbrev pub along : ℤ → ℤ → ℤ → ℤ → ℤ → ℤ
+along v ox oy sx sy = v +ℤ (ox *ℤ sy -ℤ oy *ℤ sx)
+
 -- the mark of a pair: 1 if coming by A attains the greatest value, 2 if coming by B does, 3 if both do
 unfoldable pub markOf : Worths → ℕ → ℕ → ℕ
 markOf w i j = boolByte (pointer w i j) + 2 * boolByte (alsoB w i j)
@@ -55,8 +67,8 @@ pub record CellReady (p q : Outline) (i j at : ℕ) (row : List ℤ) (work : Lis
   pub bounded′ : Bounded q
   pub inI : i + 1 < 251
   pub inJ : j + 1 < 251
-  pub inCells : at + j + 1 < 63001
-  pub inWork : room (at + j + 1 + 1) ≤ length work
+  pub inCells : at + (j + 1) < 63001
+  pub inWork : room (at + (j + 1) + 1) ≤ length work
   pub up : Within 1000000000000000 (getD row (j + 1) (pos 0))
   pub left : Within 1000000000000000 (getD row j (pos 0))
 
@@ -65,7 +77,7 @@ pub record CellDone (p q : Outline) (i j at : ℕ) (row : List ℤ) (work : List
   pub choice : Choice
   pub chosen : Chosen (getD row (j + 1) (pos 0) +ℤ worthsOf p q .worthA i (j + 1)) (getD row j (pos 0) +ℤ worthsOf p q .worthB (i + 1) j) choice
   pub stored : row′ ≡ set row (j + 1) (choice .best)
-  pub put : Put work (at + j + 1) (choice .mark) work′
+  pub put : Put work (at + (j + 1)) (choice .mark) work′
 
 -- the pair (0, j+1), which can be reached by B alone
 pub record BorderReady (p q : Outline) (j : ℕ) (row : List ℤ) (work : List ℕ) : Type 0 where

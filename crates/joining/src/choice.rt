@@ -1,8 +1,6 @@
 // One pair of the table: two ways to come, the greater value and the mark.
 ghost use mathlib.Core.Path.{_≡_};
-ghost use lib.IntN.{_+ℤ_, _-ℤ_, _*ℤ_};
-ghost use Rattle.whole.specs.Between.{Within};
-ghost use Rattle.joining.specs.Table.{Chosen};
+ghost use Rattle.joining.specs.Table.{Small, along, Chosen};
 use whole::cross;
 
 pub(crate) struct Choice {
@@ -12,8 +10,8 @@ pub(crate) struct Choice {
 
 // A value with the worth of one step more: the other side's point (ox, oy) with the own segment (dx, dy).
 pub(crate) fn via(before: i64, ox: i32, oy: i32, dx: i32, dy: i32) -> i64
-    requires { ⌜ (Within 1000000000000000 before) × (Within 100000 ox) × (Within 100000 oy) × (Within 200000 dx) × (Within 200000 dy) ⌝ }
-    ensures { λ r. ⌜ r ≡ before +ℤ (ox *ℤ dy -ℤ oy *ℤ dx) ⌝ }
+    requires { ⌜ Small before ox oy dx dy ⌝ }
+    ensures { λ r. ⌜ r ≡ along before ox oy dx dy ⌝ }
 {
     before + cross(ox, oy, dx, dy)
 }

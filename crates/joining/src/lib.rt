@@ -159,7 +159,7 @@ fn turn(marks: &[u8], m: usize, n: usize, strip: &mut [u8]) -> bool
     match find_turn(marks, m, n, strip) {
         Turning::Nowhere => false,
         Turning::Turn { at, i, j } => {
-            turn_here(marks, n, strip, at, i, j);
+            turn_here(marks, n, strip, at, i, j - 1);
             true
         }
     }

@@ -35,7 +35,7 @@ fn add_line(marks: &[u8], m: usize, n: usize, part: &mut [u8]) -> bool
         Turning::Nowhere => false,
         Turning::Turn { at, i, j } => {
             double(part, steps);
-            turn_here(marks, n, &mut part[steps..], at, i, j);
+            turn_here(marks, n, &mut part[steps..], at, i, j - 1);
             true
         }
     }

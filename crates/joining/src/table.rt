@@ -5,11 +5,28 @@
 ghost use Prim.Native.Nat.{_+_, _*_, _<_};
 ghost use mathlib.Core.Path.{_≡_};
 ghost use mathlib.Core.List.{[]};
-ghost use lib.ListN.{length};
-ghost use Rattle.joining.specs.Table.{outline, worthsOf, CellReady, CellDone, BorderReady, BorderDone, RowAt, RowMarked, Ready, Tabled};
+ghost use lib.IntN.{pos};
+ghost use lib.ListN.{length, getD};
+ghost use Rattle.joining.specs.Table.{Small, along, outline, worthsOf, CellReady, CellDone, BorderReady, BorderDone, RowAt, RowMarked, Ready, Tabled};
 use crate::choice::choose;
 use crate::choice::via;
 use crate::marks::put_mark;
+
+// The value of a pair in column `j` by a step A: the one above it, with B's point `j` and the segment (dx, dy) of A.
+fn by_step_a(row: &[i64; 251], j: usize, bx: &[i32; 251], by: &[i32; 251], dx: i32, dy: i32) -> i64
+    requires { ⌜ (j < 251) × Small (getD (now row) j (pos 0)) (getD (now bx) j (pos 0)) (getD (now by) j (pos 0)) dx dy ⌝ }
+    ensures { λ r. ⌜ r ≡ along (getD (now (row .entry)) j (pos 0)) (getD (now (bx .entry)) j (pos 0)) (getD (now (by .entry)) j (pos 0)) dx dy ⌝ }
+{
+    via(row[j], bx[j], by[j], dx, dy)
+}
+
+// The value of a pair in column `j` + 1 by a step B: the one to its left, with the point (x, y) of A and B's segment `j`.
+fn by_step_b(row: &[i64; 251], j: usize, x: i32, y: i32, bdx: &[i32; 251], bdy: &[i32; 251]) -> i64
+    requires { ⌜ (j < 251) × Small (getD (now row) j (pos 0)) x y (getD (now bdx) j (pos 0)) (getD (now bdy) j (pos 0)) ⌝ }
+    ensures { λ r. ⌜ r ≡ along (getD (now (row .entry)) j (pos 0)) x y (getD (now (bdx .entry)) j (pos 0)) (getD (now (bdy .entry)) j (pos 0)) ⌝ }
+{
+    via(row[j], x, y, bdx[j], bdy[j])
+}
 
 // The pair (i+1, j+1), whose row begins at cell `at`.
 fn cell(
@@ -30,12 +47,13 @@ fn cell(
     requires { ⌜ CellReady (outline (now ax) (now ay) (now adx) (now ady)) (outline (now bx) (now by) (now bdx) (now bdy)) i j at (now row) (now work) ⌝ }
     ensures { λ _. ⌜ CellDone (outline (now (ax .entry)) (now (ay .entry)) (now (adx .entry)) (now (ady .entry))) (outline (now (bx .entry)) (now (by .entry)) (now (bdx .entry)) (now (bdy .entry))) i j at (now (row .entry)) (now (work .entry)) (now (row .exit)) (now (work .exit)) ⌝ }
 {
-    let by_a = via(row[j + 1], bx[j + 1], by[j + 1], adx[i], ady[i]);
-    let by_b = via(row[j], ax[i + 1], ay[i + 1], bdx[j], bdy[j]);
+    let here = j + 1;
+    let by_a = by_step_a(row, here, bx, by, adx[i], ady[i]);
+    let by_b = by_step_b(row, j, ax[i + 1], ay[i + 1], bdx, bdy);
     let chosen = choose(by_a, by_b);
     let best = chosen.best;
-    row[j + 1] = best;
-    put_mark(work, at + j + 1, chosen.mark);
+    row[here] = best;
+    put_mark(work, at + here, chosen.mark);
 }
 
 // The pair (0, j+1) of the first row, which can be reached by B alone.
@@ -51,7 +69,7 @@ fn border(
     requires { ⌜ BorderReady (outline (now ax) (now ay) [] []) (outline [] [] (now bdx) (now bdy)) j (now row) (now work) ⌝ }
     ensures { λ _. ⌜ BorderDone (outline (now (ax .entry)) (now (ay .entry)) [] []) (outline [] [] (now (bdx .entry)) (now (bdy .entry))) j (now (row .entry)) (now (work .entry)) (now (row .exit)) (now (work .exit)) ⌝ }
 {
-    let next = via(row[j], ax[0], ay[0], bdx[j], bdy[j]);
+    let next = by_step_b(row, j, ax[0], ay[0], bdx, bdy);
     row[j + 1] = next;
     put_mark(work, j + 1, 2);
 }
@@ -97,7 +115,7 @@ fn next_row(
     ensures { λ _. ⌜ (RowAt (worthsOf (outline (now (ax .entry)) (now (ay .entry)) (now (adx .entry)) (now (ady .entry))) (outline (now (bx .entry)) (now (by .entry)) (now (bdx .entry)) (now (bdy .entry)))) (i + 1) n (now (row .exit))) × (RowMarked (worthsOf (outline (now (ax .entry)) (now (ay .entry)) (now (adx .entry)) (now (ady .entry))) (outline (now (bx .entry)) (now (by .entry)) (now (bdx .entry)) (now (bdy .entry)))) (i + 1) n (now (work .entry)) (now (work .exit))) ⌝ }
 {
     let at = (i + 1) * (n + 1);
-    let start = via(row[0], bx[0], by[0], adx[i], ady[i]);
+    let start = by_step_a(row, 0, bx, by, adx[i], ady[i]);
     row[0] = start;
     put_mark(work, at, 1);
     let mut j = 0;

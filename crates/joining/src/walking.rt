@@ -1,7 +1,7 @@
 // Walking along the marks: back from a pair to (0,0), and forth along a strip to the step where the next one turns.
 ghost use mathlib.Core.Path.{_≡_};
 ghost use mathlib.Core.List.{_++_};
-ghost use Prim.Native.Nat.{_+_, _-_, _≤_, _<_};
+ghost use Prim.Native.Nat.{_+_, _≤_, _<_};
 ghost use lib.ListN.{length, take, drop, set};
 ghost use Rattle.ways.specs.Keppel.{trace};
 ghost use Rattle.strip.specs.Bytes.{bytes, IsStrip};
@@ -109,11 +109,11 @@ pub(crate) fn find_turn(marks: &[u8], m: usize, n: usize, strip: &[u8]) -> Turni
     Turning::Nowhere
 }
 
-// The strip with its step at `at`, an A into (i,j), turned to B, and what comes before it traced anew.
+// The strip with a step B at `at`, and what comes before it traced anew from (i,j), the pair that this step leaves.
 pub(crate) fn turn_here(marks: &[u8], n: usize, strip: &mut [u8], at: usize, i: usize, j: usize)
-    requires { ⌜ (1 ≤ j) × (Leads (now marks) n i (j - 1)) × (at < length (now strip)) × (i + (j - 1) ≤ length (now strip)) ⌝ }
-    ensures { λ _. ⌜ now (strip .exit) ≡ bytes (trace (saysA (now (marks .entry)) n) (i + (j - 1)) i (j - 1)) ++ drop (i + (j - 1)) (set (now (strip .entry)) at 1) ⌝ }
+    requires { ⌜ (Leads (now marks) n i j) × (at < length (now strip)) × (i + j ≤ length (now strip)) ⌝ }
+    ensures { λ _. ⌜ now (strip .exit) ≡ bytes (trace (saysA (now (marks .entry)) n) (i + j) i j) ++ drop (i + j) (set (now (strip .entry)) at 1) ⌝ }
 {
     strip[at] = 1;
-    trace_back(marks, n, i, j - 1, strip);
+    trace_back(marks, n, i, j, strip);
 }

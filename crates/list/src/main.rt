@@ -1,4 +1,6 @@
 // The listing program: standard input in, standard output out; all between is `listing`.
+ghost use mathlib.Core.Path.{_≡_};
+ghost use lib.ListN.{length};
 use libc::STDIN_FILENO;
 use libc::STDOUT_FILENO;
 use listing::Listed;
@@ -10,9 +12,16 @@ fn main() {
     print(&text[..read]);
 }
 
-// There is room for the longest listing, so nothing is refused but in the text itself.
+// Room for the longest listing.
+fn no_bytes() -> [u8; 501_047]
+    ensures { λ r. ⌜ 501047 ≡ length r ⌝ }
+{
+    [0u8; 501_047]
+}
+
+// There is room for every listing, so nothing is refused but in the text itself.
 fn print(text: &[u8]) {
-    let mut out = [0u8; 501_047];
+    let mut out = no_bytes();
     match listing::listing(text, &mut out) {
         Listed::Bytes(written) => {
             io::write_all(STDOUT_FILENO, &out[..written]);

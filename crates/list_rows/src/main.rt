@@ -1,80 +1,29 @@
-// Odd inputs of the listing program, a file each in data/, and what it writes for them: all of it, or of a long one the first line, how
-// many lines and bytes, and the last bytes. Then what happens to the lent slice.
+// Odd inputs of the listing program, a file each in data/, whose names stand in standard input, and what it writes for them: all of it, or
+// of a long one the first line, how many lines and bytes, and the last bytes. Then what happens to the lent slice.
+ghost use mathlib.Core.Path.{_≡_};
 ghost use Prim.Native.Nat.{_≤_};
 ghost use lib.ListN.{length};
 use fault::number;
+use libc::STDIN_FILENO;
 use libc::STDOUT_FILENO;
 use listing::Listed;
 
 fn main() {
-    read_as_numbers();
-    asked_for();
-    refused();
-    long_ones();
-    too_short(b"0 3 0 0 2 0 0 2 1 3 0 0 2 0 0 2");
-    too_long(b"0 3 0 0 2 0 0 2 1 3 0 0 2 0 0 2");
+    let mut names = [0u8; 2_000];
+    let read = io::read_full(STDIN_FILENO, &mut names);
+    show_all(&names[..read]);
+    lent(b"0 3 0 0 2 0 0 2 1 3 0 0 2 0 0 2", 501_046);
+    lent(b"0 3 0 0 2 0 0 2 1 3 0 0 2 0 0 2", 501_050);
 }
 
-// Whether the words are numbers.
-fn read_as_numbers() {
-    show(b"empty");
-    show(b"blanks");
-    show(b"example");
-    show(b"spread");
-    show(b"minus_zero");
-    show(b"leading_zeros");
-    show(b"minus");
-    show(b"minus_minus");
-    show(b"minus_behind");
-    show(b"plus");
-    show(b"point");
-    show(b"letter");
-    show(b"range_end");
-    show(b"range_beyond");
-    show(b"range_low_end");
-    show(b"range_low_beyond");
-    show(b"byte_13");
-    show(b"byte_9");
-    show(b"byte_0");
-}
-
-// Whether they are planes, numbers of points and points, nothing more.
-fn asked_for() {
-    show(b"missing");
-    show(b"one_too_many");
-    show(b"m_negative");
-    show(b"n_negative");
-    show(b"m_zero");
-    show(b"n_zero");
-    show(b"m_two");
-    show(b"m_huge");
-}
-
-// Faults of traces and planes, and the greatest values.
-fn refused() {
-    show(b"planes_equal");
-    show(b"planes_fall");
-    show(b"planes_ends");
-    show(b"lower_100001");
-    show(b"upper_100001");
-    show(b"lower_below");
-    show(b"closing_point");
-    show(b"upper_closing_point");
-    show(b"turned");
-    show(b"turned_planes");
-    show(b"coordinate_100001");
-    show(b"greatest");
-}
-
-// Many points, many strips, many bytes.
-fn long_ones() {
-    show(b"points_250");
-    show(b"points_251");
-    show(b"upper_251");
-    show(b"thousand");
-    show(b"over_thousand");
-    show(b"bytes_60000");
-    show(b"bytes_60001");
+// A line for each name.
+fn show_all(names: &[u8]) {
+    let mut from = 0;
+    while from < names.len() {
+        let end = line_end(names, from);
+        show(&names[from..end]);
+        from = end + 1;
+    }
 }
 
 fn show(name: &[u8]) {
@@ -87,8 +36,15 @@ fn show(name: &[u8]) {
     print(&text[..read]);
 }
 
+// Room for the longest listing.
+fn no_bytes() -> [u8; 501_047]
+    ensures { λ r. ⌜ 501047 ≡ length r ⌝ }
+{
+    [0u8; 501_047]
+}
+
 fn print(text: &[u8]) {
-    let mut out = [0u8; 501_047];
+    let mut out = no_bytes();
     match listing::listing(text, &mut out) {
         Listed::Bytes(written) => tell(&out[..written]),
         Listed::Refused(_) => {
@@ -106,7 +62,7 @@ fn tell(out: &[u8]) {
 }
 
 fn tell_briefly(out: &[u8]) {
-    let first = line_end(out);
+    let first = line_end(out, 0);
     io::write_all(STDOUT_FILENO, &out[..first]);
     io::write_all(STDOUT_FILENO, b"\n");
     io::print_decimal(STDOUT_FILENO, times(out, 10) as u64);
@@ -119,11 +75,12 @@ fn tell_briefly(out: &[u8]) {
     }
 }
 
-// Where the first line ends.
-fn line_end(out: &[u8]) -> usize
-    ensures { λ r. ⌜ r ≤ length (now (out .entry)) ⌝ }
+// Where the line that begins at `from` ends.
+fn line_end(out: &[u8], from: usize) -> usize
+    requires { ⌜ from ≤ length (now out) ⌝ }
+    ensures { λ r. ⌜ (from ≤ r) × (r ≤ length (now (out .entry))) ⌝ }
 {
-    let mut k = 0;
+    let mut k = from;
     while k < out.len() {
         if out[k] == 10 {
             return k;
@@ -151,17 +108,24 @@ fn times(out: &[u8], byte: u8) -> usize {
     count
 }
 
-// A slice that is a byte too short is left as it was; of a longer one all but the front is.
-fn too_short(text: &[u8]) {
-    let mut out = [7u8; 501_046];
-    tell_listed(listing::listing(text, &mut out));
-    tell_sevens(&out);
+// More than that, all the same byte.
+fn sevens() -> [u8; 501_050]
+    ensures { λ r. ⌜ 501050 ≡ length r ⌝ }
+{
+    [7u8; 501_050]
 }
 
-fn too_long(text: &[u8]) {
-    let mut out = [7u8; 501_050];
-    tell_listed(listing::listing(text, &mut out));
-    tell_sevens(&out);
+// A slice that is a byte too short is left as it was; of a longer one all but the front is.
+fn lent(text: &[u8], bytes: usize) {
+    let mut out = sevens();
+    if bytes <= out.len() {
+        tell_lent(text, &mut out[..bytes]);
+    }
+}
+
+fn tell_lent(text: &[u8], out: &mut [u8]) {
+    tell_listed(listing::listing(text, out));
+    tell_sevens(out);
 }
 
 fn tell_listed(listed: Listed) {

@@ -2,6 +2,7 @@
 -- Assumes nothing.
 use mathlib.Core.Path.{_≡_, sym, ap, subst}
 use Prim.Native.Nat.{ℕ, zero, suc, _+_, _/_, _≤_}
+use native.Mathlib.Nat.{div-le-self}
 use native.Mathlib.Omega.{arith}
 use lib.IntN.{ℤ, pos, negsuc, negℤ, _+ℤ_}
 use lib.Signed.{quotZ, mag}
@@ -9,18 +10,18 @@ use mir.Syntax.{Width}
 use mir.Val.{SFits, toZ, ofZ}
 use mir.ValLaws.{toZ-ofZ, sfits-le}
 
-neg-mag : (k n : ℕ) → k ≤ n → mag (negℤ (pos k)) ≤ n
+neg-mag : (k n : ℕ) → k ≤ suc n → mag (negℤ (pos k)) ≤ n
 neg-mag zero n h = omega arith
 neg-mag (suc k) n h = omega arith
 
-half-mag : (z : ℤ) → mag (quotZ z (pos 2)) ≤ mag z
-half-mag (pos n) = omega arith
-half-mag (negsuc n) = neg-mag (suc n / 2) n (omega arith)
+part-mag : (z : ℤ) (k : ℕ) → mag (quotZ z (pos k)) ≤ mag z
+part-mag (pos n) k = div-le-self n k
+part-mag (negsuc n) k = neg-mag (suc n / k) n (div-le-self (suc n) k)
 
--- the half of what was stored and read back fits where the whole does
-pub half-fits : (w : Width) {z : ℤ} → SFits w z → SFits w (quotZ (toZ w (ofZ w z)) (pos 2))
-half-fits w {z} f =
-    subst (λ (y : ℤ). SFits w (quotZ y (pos 2))) (sym (toZ-ofZ w z f)) (sfits-le (half-mag z) f)
+-- a half, or any other whole part, of what was stored and read back fits where the whole does
+pub part-fits : (w : Width) (k : ℕ) {z : ℤ} → SFits w z → SFits w (quotZ (toZ w (ofZ w z)) (pos k))
+part-fits w k {z} f =
+    subst (λ (y : ℤ). SFits w (quotZ y (pos k))) (sym (toZ-ofZ w z f)) (sfits-le (part-mag z k) f)
 
 neg-half : (n k : ℕ) → k ≡ suc n → negℤ (pos k) ≡ negsuc n
 neg-half n k e = ap (λ (m : ℕ). negℤ (pos m)) e

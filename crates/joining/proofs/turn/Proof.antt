@@ -29,11 +29,13 @@ inside : (c : tie.After-at)
     → TurnInside (c .before .before .before .before .before .before .args .m) (c .before .before .before .before .before .before .args .n) (c .at .given .0 .0) (c .at .given .0 .1 .0) (c .at .given .0 .1 .1 .0)
 inside c = let pre = c .before .before .before .before .before .before .pre in turn-inside (pre .0) (pre .2 .strip) (there c (pre .2))
 
+sub-turn-here : tie.Need-sub-turn-here
+sub-turn-here c = omega (arith, inside (c .before .before) .some-b)
+
 turn-here-requires : tie.Need-turn-here-requires
 turn-here-requires c κs =
     let d = inside (c .before .before) in (
-      d .some-b,
-      leads-back (c .before .before .before .before .before .before .before .before .pre .0 .leads) (d .inA) (omega (arith, d .inB)),
+      leads-back (c .before .before .before .before .before .before .before .before .pre .0 .leads) (omega (arith, d .inA)) (omega (arith, d .inB)),
       omega (arith, d .below, c .before .before .before .before .before .before .before .before .pre .1),
       omega (arith, d .steps, d .below, c .before .before .before .before .before .before .before .before .pre .1),
     )
@@ -57,6 +59,7 @@ turn-spec =
     find-turn-requires
     enum-told
     enum-known-at
+    sub-turn-here
     turn-here-requires
     same-length
     returns

@@ -6,19 +6,19 @@ use Rattle.list_rows.proofs.line_end.Statement.{statement}
 use Rattle.list_rows.proofs.line_end.Tie as tie
 
 abbrev Inv-loop : tie.InvT-loop
-Inv-loop out k₀ k = k ≤ length out
+Inv-loop out from k₀ k = (from ≤ k) × (k ≤ length out)
 
 abbrev μ-loop : tie.MeasureT-loop
-μ-loop out k₀ k = length out - k
+μ-loop out from k₀ k = length out - k
 
 loop-holds : tie.Need-loop-holds Inv-loop μ-loop
-loop-holds c = omega arith
+loop-holds c = (omega arith, omega arith)
 
 shared-slice-read-if1 : tie.Need-shared-slice-read-if1 Inv-loop μ-loop
 shared-slice-read-if1 c = omega arith
 
 returns : tie.Need-returns Inv-loop μ-loop
-returns c = omega arith
+returns c = (omega arith, omega arith)
 
 add-k : tie.Need-add-k Inv-loop μ-loop
 add-k c = omega arith
@@ -27,10 +27,10 @@ loop-less : tie.Need-loop-less Inv-loop μ-loop
 loop-less c = omega arith
 
 loop-again : tie.Need-loop-again Inv-loop μ-loop
-loop-again c = omega arith
+loop-again c = (omega arith, omega arith)
 
 returns-2 : tie.Need-returns-2 Inv-loop μ-loop
-returns-2 c = omega arith
+returns-2 c = (omega arith, omega arith)
 
 pub line-end-spec : {M : Type 1} → statement M
 line-end-spec =

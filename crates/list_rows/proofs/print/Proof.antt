@@ -12,6 +12,9 @@ use Rattle.list_rows.proofs.print.Tie as tie
 inside : (c : tie.After-written) → c .written .given .0 .0 ≤ length (c .before .before .before .listing .last .1 .0)
 inside c = bytes-inside (c .before .before .before .listing .ensures) (c .written .given .1)
 
+no-bytes-requires : tie.Need-no-bytes-requires
+no-bytes-requires c κs = search needs
+
 slice-aggregate-listing : tie.Need-slice-aggregate-listing
 slice-aggregate-listing c = search needs
 
@@ -50,6 +53,7 @@ pub print-spec : {M : Type 1} → statement M
 print-spec =
     tie.close
     (tie.spec
+    no-bytes-requires
     slice-aggregate-listing
     listing-requires
     enum-known-written

@@ -10,7 +10,7 @@ line-end-requires c κs = search needs
 
 slice-aggregate-write-all : tie.Need-slice-aggregate-write-all
 slice-aggregate-write-all c =
-    sym (length-take-le (c .before .line-end .result) (c .before .before .before .args .out .now) (c .before .line-end .ensures))
+    sym (length-take-le (c .before .line-end .result) (c .before .before .before .args .out .now) (c .before .line-end .ensures .1))
 
 write-all-requires : tie.Need-write-all-requires
 write-all-requires c κs = search needs

@@ -1,64 +1,34 @@
--- `whole::cross` meets its contract. Each product lies within 2^62, the difference within 2^63 - 2^31: one end of an i32's range
--- is a unit shorter than the other, and that unit is what makes the difference fit. Assumes nothing.
-use mathlib.Core.Path.{refl}
-use Prim.Native.Nat.{_^_, _-_}
-use lib.IntN.{ℤ}
+-- `whole::cross` meets its contract. Each product lies within 2^62, and one of its ends 2^31 inside: that is what makes the difference
+-- fit, whichever products they are. Assumes nothing.
+use mathlib.Core.Path.{_≡_, refl, ap₂, _∙_}
+use lib.IntN.{ℤ, _*ℤ_, _-ℤ_}
 use mir.Syntax.{w32, w64}
 use mir.Val.{SFits, toZ, ofZ}
-use Rattle.whole.proofs.Machine.{Holds, held, from32, fits-holds, times, minus}
+use mir.ValLaws.{toZ-ofZ}
+use borrow.Author.Needs.{needs}
+use Rattle.whole.proofs.Machine.{held, from, fits-holds, minus}
 use Rattle.whole.proofs.cross.Statement.{statement}
 use Rattle.whole.proofs.cross.Tie as tie
 
--- a parameter, and the same as an i64
-given : {z : ℤ} → SFits w32 z → Holds (2 ^ 31) (2 ^ 31 - 1) (toZ w32 (ofZ w32 z)) z
-given f = held w32 (from32 refl f) tt
+-- a product of words is that of the numbers
+numbers : {r a b : ℤ} → r ≡ toZ w32 (ofZ w32 a) *ℤ toZ w32 (ofZ w32 b) → SFits w32 a → SFits w32 b → r ≡ a *ℤ b
+numbers {a = a} {b = b} e f g = e ∙ ap₂ _*ℤ_ (toZ-ofZ w32 a f) (toZ-ofZ w32 b g)
 
-wide : {z : ℤ} → SFits w32 z → Holds (2 ^ 31) (2 ^ 31 - 1) (toZ w64 (ofZ w64 (toZ w32 (ofZ w32 z)))) z
-wide f = held w64 (given f) tt
+product-requires : tie.Need-product-requires
+product-requires c κs = search needs
 
-cast-result : tie.Need-cast-result
-cast-result c = fits-holds w64 (given (c .fits .ax)) tt
-
-cast-result-2 : tie.Need-cast-result-2
-cast-result-2 c = fits-holds w64 (given (c .fits .by)) tt
-
-mul-result : tie.Need-mul-result
-mul-result c = fits-holds w64 (times (wide (c .fits .ax)) (wide (c .fits .by))) tt
-
-cast-result-3 : tie.Need-cast-result-3
-cast-result-3 c = fits-holds w64 (given (c .fits .ay)) tt
-
-cast-result-4 : tie.Need-cast-result-4
-cast-result-4 c = fits-holds w64 (given (c .fits .bx)) tt
-
-mul-result-2 : tie.Need-mul-result-2
-mul-result-2 c = fits-holds w64 (times (wide (c .fits .ay)) (wide (c .fits .bx))) tt
+product-requires-2 : tie.Need-product-requires-2
+product-requires-2 c κs = search needs
 
 sub-result : tie.Need-sub-result
 sub-result c =
-    fits-holds w64
-    (minus
-    (held w64 (times (wide (c .fits .ax)) (wide (c .fits .by))) tt)
-    (held w64 (times (wide (c .fits .ay)) (wide (c .fits .bx))) tt))
-    tt
+    fits-holds w64 (minus (held w64 (from refl (c .before .product .ensures .1)) tt) (held w64 (from refl (c .product2 .ensures .1)) tt)) tt
 
 returns : tie.Need-returns
 returns c =
-    held w64
-    (minus
-    (held w64 (times (wide (c .fits .ax)) (wide (c .fits .by))) tt)
-    (held w64 (times (wide (c .fits .ay)) (wide (c .fits .bx))) tt))
-    tt .is
+    let fits = c .before .before .fits in
+    held w64 (minus (held w64 (from refl (c .before .product .ensures .1)) tt) (held w64 (from refl (c .product2 .ensures .1)) tt)) tt .is
+    ∙ ap₂ _-ℤ_ (numbers (c .before .product .ensures .0) (fits .ax) (fits .by)) (numbers (c .product2 .ensures .0) (fits .ay) (fits .bx))
 
 pub cross-spec : {M : Type 1} → statement M
-cross-spec =
-    tie.close
-    (tie.spec
-    cast-result
-    cast-result-2
-    mul-result
-    cast-result-3
-    cast-result-4
-    mul-result-2
-    sub-result
-    returns)
+cross-spec = tie.close (tie.spec product-requires product-requires-2 sub-result returns)

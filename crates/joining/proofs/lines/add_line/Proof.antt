@@ -48,6 +48,9 @@ part-turn-here-start c = search needs
 part-turn-here-end : tie.Need-part-turn-here-end
 part-turn-here-end c = search needs
 
+sub-turn-here-2 : tie.Need-sub-turn-here-2
+sub-turn-here-2 c = omega (arith, inside (c .before .before .before .before .before .before) .some-b)
+
 turn-here-requires : tie.Need-turn-here-requires
 turn-here-requires c κs =
     let d = inside (c .before .before .before .before .before .before) in
@@ -56,7 +59,7 @@ turn-here-requires c κs =
     let long : steps ≤ length (take (length whole - steps) (drop steps whole)) =
     subst (λ (l : List ℕ). steps ≤ length l) (sym (part-lent steps whole))
     (omega (arith, length-drop steps whole, c .before .before .before .double .kept .0, c .before .before .before .before .before .before .before .before .before .before .before .before .pre .1)) in
-    (d .some-b, leads-back (c .before .before .before .before .before .before .before .before .before .before .before .before .pre .0 .leads) (d .inA) (omega (arith, d .inB)), omega (arith, d .below), omega (arith, d .steps, d .below))
+    (leads-back (c .before .before .before .before .before .before .before .before .before .before .before .before .pre .0 .leads) (d .inA) (omega (arith, d .inB)), omega (arith, d .below), omega (arith, d .steps, d .below))
 
 same-length : tie.Need-same-length
 same-length c = search needs
@@ -92,6 +95,7 @@ add-line-spec =
     sub-turn-here
     part-turn-here-start
     part-turn-here-end
+    sub-turn-here-2
     turn-here-requires
     same-length
     returns

@@ -1,49 +1,27 @@
--- `joining::table::border` meets its contract. Assumes nothing.
+-- `joining::table::border` meets its contract: the value by a step B is stored, with its mark. Assumes nothing.
 use mathlib.Core.Path.{ap}
 use Prim.Native.Nat.{_+_}
+use native.Mathlib.Omega.{arith}
 use lib.IntN.{ℤ}
 use lib.ListN.{set}
-use mir.Syntax.{w32, w64}
-use Rattle.whole.proofs.Machine.{passed, returned}
-use Rattle.joining.proofs.ChoiceLaws.{via-is}
+use mir.Syntax.{w64}
+use Rattle.whole.proofs.Machine.{returned}
+use Rattle.joining.specs.Table.{Small}
+use Rattle.joining.proofs.ChoiceLaws.{step-small, small-point, point-is}
 use borrow.Author.Needs.{needs}
 use Rattle.joining.proofs.table.border.Statement.{statement}
 use Rattle.joining.proofs.table.border.Tie as tie
 
-mul-via : tie.Need-mul-via
-mul-via c = search needs
+element-copy-out-by-step-b : tie.Need-element-copy-out-by-step-b
+element-copy-out-by-step-b c = search needs
 
-element-copy-out-via : tie.Need-element-copy-out-via
-element-copy-out-via c = search needs
+element-copy-out-by-step-b-2 : tie.Need-element-copy-out-by-step-b-2
+element-copy-out-by-step-b-2 c = search needs
 
-element-copy-out-via-2 : tie.Need-element-copy-out-via-2
-element-copy-out-via-2 c = search needs
-
-element-copy-out-via-3 : tie.Need-element-copy-out-via-3
-element-copy-out-via-3 c = search needs
-
-mul-via-2 : tie.Need-mul-via-2
-mul-via-2 c = search needs
-
-element-copy-out-via-4 : tie.Need-element-copy-out-via-4
-element-copy-out-via-4 c = search needs
-
-mul-via-3 : tie.Need-mul-via-3
-mul-via-3 c = search needs
-
-element-copy-out-via-5 : tie.Need-element-copy-out-via-5
-element-copy-out-via-5 c = search needs
-
-via-requires : tie.Need-via-requires
-via-requires c κs =
-    let pre = c .before .before .before .before .before .before .pre in
-    let j = c .before .before .before .before .before .before .args .j in (
-      passed w64 (pre .left) tt,
-      passed w32 (pre .bounded .x 0) tt,
-      passed w32 (pre .bounded .y 0) tt,
-      passed w32 (pre .bounded′ .dx j) tt,
-      passed w32 (pre .bounded′ .dy j) tt,
-    )
+by-step-b-requires : tie.Need-by-step-b-requires
+by-step-b-requires c κs =
+    let pre = c .before .before .before .before .pre in
+    (omega arith, small-point (step-small (pre .left) (pre .bounded) (pre .bounded′) 0 (c .before .before .before .before .args .j)))
 
 add-next : tie.Need-add-next
 add-next c = search needs
@@ -65,15 +43,12 @@ same-length c = search needs
 
 returns : tie.Need-returns
 returns c =
-    let pre = c .before .before .before .before .before .before .before .before .before .before .before .pre in
-    let j = c .before .before .before .before .before .before .before .before .before .before .before .args .j in
-    let via = c .before .before .before .before .via in
+    let start = c .before .before .before .before .before .before .before .before .before in
+    let pre = start .pre in
+    let j = start .args .j in
+    let by-b = c .before .before .before .before .by-step-b in
     record {
-      stored =
-          ap (λ (v : ℤ). set (c .before .before .before .before .before .before .before .before .before .before .before .args .row .now) (j + 1) v)
-          (returned w64
-          (via-is (pre .left) (pre .bounded .x 0) (pre .bounded .y 0) (pre .bounded′ .dx j) (pre .bounded′ .dy j) (via .ensures))
-          (via .ok));
+      stored = ap (λ (v : ℤ). set (start .args .row .now) (j + 1) v) (returned w64 (point-is (step-small (pre .left) (pre .bounded) (pre .bounded′) 0 j) (by-b .ensures)) (by-b .ok));
       put = c .before .before .put-mark .ensures;
     }
 
@@ -81,15 +56,9 @@ pub border-spec : {M : Type 1} → statement M
 border-spec =
     tie.close
     (tie.spec
-    mul-via
-    element-copy-out-via
-    element-copy-out-via-2
-    element-copy-out-via-3
-    mul-via-2
-    element-copy-out-via-4
-    mul-via-3
-    element-copy-out-via-5
-    via-requires
+    element-copy-out-by-step-b
+    element-copy-out-by-step-b-2
+    by-step-b-requires
     add-next
     mul-next
     element-set-from-next

@@ -47,7 +47,7 @@ loop-again : tie.Need-loop-again Inv-loop μ-loop
 loop-again c =
     let so = c .before .before .loop .inv in
     let k = c .before .before .loop .k in
-    back-more (k - 1) (c .before .before .before .before .before .pre .1) (one-less k (c .before .loop-test .taken) so) (c .step-back .ensures)
+    back-more (k - 1) (c .before .before .before .before .before .pre .1) (one-less k (omega arith) so) (c .step-back .ensures)
 
 same-length : tie.Need-same-length Inv-loop μ-loop
 same-length c = c .before .loop .inv .long

@@ -8,9 +8,6 @@ use Rattle.joining.proofs.walking.turn_here.Tie as tie
 slice-write-strip : tie.Need-slice-write-strip
 slice-write-strip c = search needs
 
-sub-trace-back : tie.Need-sub-trace-back
-sub-trace-back c = search needs
-
 trace-back-requires : tie.Need-trace-back-requires
 trace-back-requires c κs = search needs
 
@@ -22,4 +19,4 @@ returns c = search needs
 
 pub turn-here-spec : {M : Type 1} → statement M
 turn-here-spec =
-    tie.close (tie.spec slice-write-strip sub-trace-back trace-back-requires same-length returns)
+    tie.close (tie.spec slice-write-strip trace-back-requires same-length returns)

@@ -13,6 +13,12 @@ twice-area-requires c κs = search needs
 twice-area-requires-2 : tie.Need-twice-area-requires-2
 twice-area-requires-2 c κs = search needs
 
+returns : tie.Need-returns
+returns c =
+    let pre = c .before .before .before .before .pre in
+    held w64
+    (rule-held (pre .0) (pre .1) (c .before .before .twice-area .ensures) (c .before .twice-area2 .ensures) (c .half-value .ensures)) tt .is
+
 add-areas : tie.Need-add-areas
 add-areas c =
     fits-holds w64 (areas-held (c .before .before .before .pre .0) (c .before .twice-area .ensures) (c .twice-area2 .ensures)) tt
@@ -34,12 +40,6 @@ mul-result c =
     let pre = c .before .before .before .before .pre in
     fits-holds w64
     (rule-held (pre .0) (pre .1) (c .before .before .twice-area .ensures) (c .before .twice-area2 .ensures) (c .half-value .ensures)) tt
-
-returns : tie.Need-returns
-returns c =
-    let pre = c .before .before .before .before .pre in
-    held w64
-    (rule-held (pre .0) (pre .1) (c .before .before .twice-area .ensures) (c .before .twice-area2 .ensures) (c .half-value .ensures)) tt .is
 
 pub by-rule-spec : {M : Type 1} → statement M
 by-rule-spec =
