@@ -1,10 +1,14 @@
 -- `best`, from what its parts have done: the marks lead back the strip of 001's rule (13), which is the first best one. Assumes nothing.
-use mathlib.Core.Path.{_≡_, refl, sym, ap, _∙_, subst, subst₂}
+use mathlib.Core.Path.{_≡_, refl, sym, ap, ap₂, _∙_, subst, subst₂}
+use mathlib.Core.Bool.{true, false, _||_}
 use mathlib.Core.List.{List, _++_}
 use Prim.Native.Nat.{ℕ, _+_, _*_, _≤_, _<_}
 use native.Mathlib.Omega.{arith}
+use borrow.Author.Tests.{ltb-false, le-ltb}
+use lib.Dec.{ltb}
 use lib.IntN.{ℤ}
 use lib.ListN.{length, drop, replicate}
+use Rattle.whole.proofs.TestLaws.{true≢false, or-false}
 use Rattle.trace.specs.Points.{count}
 use Rattle.trace.specs.Pair.{at, PairCounts}
 use Rattle.ways.specs.Strip.{Step}
@@ -34,6 +38,27 @@ enough {a} {b} {m} {n} {strip} {work} p h k = record {
   forStrip = subst₂ (λ (x y : ℕ). x + y ≤ length strip) (p .countA) (p .countB) h;
   forWork = subst₂ (λ (x y : ℕ). (x + 1) * (y + 1) ≤ length work) (p .countA) (p .countB) k;
 }
+
+-- and the other way round
+pub enough-strip : {a b : List ℤ} {m n : ℕ} {strip work : List ℕ} → PairCounts a b m n → Enough a b strip work → m + n ≤ length strip
+enough-strip p e = omega (arith, p .countA, p .countB, e .forStrip)
+
+pub enough-work : {a b : List ℤ} {m n : ℕ} {strip work : List ℕ} → PairCounts a b m n → Enough a b strip work
+    → (m + 1) * (n + 1) ≤ length work
+enough-work {work = work} p e =
+    subst₂ (λ (x y : ℕ). (x + 1) * (y + 1) ≤ length work) (sym (p .countA)) (sym (p .countB)) (e .forWork)
+
+-- both slices tested at once
+module _ {a b : List ℤ} {m n : ℕ} (strip work : List ℕ) where
+  pub short : PairCounts a b m n → ltb (length strip) (m + n) || ltb (length work) ((m + 1) * (n + 1)) ≡ true → Enough a b strip work → ⊥
+  short p e q =
+      true≢false
+      (sym e ∙ ap₂ _||_ (le-ltb (length strip) (m + n) (enough-strip p q)) (le-ltb (length work) ((m + 1) * (n + 1)) (enough-work p q)))
+
+  pub roomy : PairCounts a b m n → ltb (length strip) (m + n) || ltb (length work) ((m + 1) * (n + 1)) ≡ false → Enough a b strip work
+  roomy p e =
+      let both = or-false (ltb (length strip) (m + n)) (ltb (length work) ((m + 1) * (n + 1))) e in
+      enough p (ltb-false (length strip) (m + n) (both .0)) (ltb-false (length work) ((m + 1) * (n + 1)) (both .1))
 
 pub short-strip : {a b : List ℤ} {m n : ℕ} {strip work : List ℕ} → PairCounts a b m n → length strip < m + n → Enough a b strip work → ⊥
 short-strip p h e = omega (arith, p .countA, p .countB, e .forStrip)

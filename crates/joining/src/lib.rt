@@ -16,7 +16,7 @@ ghost use Rattle.joining.specs.Cells.{room};
 ghost use Rattle.joining.specs.Table.{Tabled};
 ghost use Rattle.joining.specs.Listing.{ListAnswer};
 ghost use Rattle.joining.specs.Walking.{Marked, Turned};
-ghost use Rattle.joining.specs.Answers.{BestAnswer, NextAnswer, workBytes};
+ghost use Rattle.joining.specs.Answers.{Enough, BestAnswer, NextAnswer, workBytes};
 use crate::copies::differences;
 use crate::copies::wrapped;
 use crate::lines::some_lines;
@@ -119,14 +119,18 @@ pub fn next(a: &[i32], b: &[i32], strip: &mut [u8], work: &mut [u8]) -> Followed
     let Judgement::Fit { area: _, count: n } = judged else {
         return Followed::Refused(trace::refused(judged, 1));
     };
+    if (strip.len() < m + n) | (work.len() < (m + 1) * (n + 1)) {
+        return refusal(Fault::Room);
+    }
+    follow(a, b, m, n, strip, work)
+}
+
+// What is asked for, once both traces are accepted and there is room.
+fn follow(a: &[i32], b: &[i32], m: usize, n: usize, strip: &mut [u8], work: &mut [u8]) -> Followed
+    requires { ⌜ PairCounts (now a) (now b) m n × Enough (now a) (now b) (now strip) (now work) ⌝ }
+    ensures { λ r. ⌜ NextAnswer (now (a .entry)) (now (b .entry)) (now (strip .entry)) (now (work .entry)) (now (strip .exit)) (now (work .exit)) r ⌝ }
+{
     let steps = m + n;
-    let cells = (m + 1) * (n + 1);
-    if strip.len() < steps {
-        return refusal(Fault::Room);
-    }
-    if work.len() < cells {
-        return refusal(Fault::Room);
-    }
     let handed_in = judge_strip(a, b, &strip[..steps]);
     let Valued::Value(value) = handed_in else {
         return refusal(Fault::Strip);
@@ -137,7 +141,7 @@ pub fn next(a: &[i32], b: &[i32], strip: &mut [u8], work: &mut [u8]) -> Followed
         return refusal(Fault::Below);
     }
     let turned = turn(&marks, m, n, strip);
-    clear(work, cells);
+    clear(work, (m + 1) * (n + 1));
     if turned {
         Followed::Next(greatest)
     } else {
