@@ -106,8 +106,7 @@ fn no_marks() -> [u8; 63001]
     [0u8; 63001]
 }
 
-// The strip that comes next after the one at the front of `strip`, in its place. Takes every input; a refusal touches nothing, so the
-// marks are kept in a local array until BELOW is decided.
+// The strip that comes next after the one at the front of `strip`, in its place. Takes every input; a refusal touches nothing.
 pub fn next(a: &[i32], b: &[i32], strip: &mut [u8], work: &mut [u8]) -> Followed
     ensures { λ r. ⌜ NextAnswer (now (a .entry)) (now (b .entry)) (now (strip .entry)) (now (work .entry)) (now (strip .exit)) (now (work .exit)) r ⌝ }
 {
@@ -125,7 +124,7 @@ pub fn next(a: &[i32], b: &[i32], strip: &mut [u8], work: &mut [u8]) -> Followed
     follow(a, b, m, n, strip, work)
 }
 
-// What is asked for, once both traces are accepted and there is room.
+// What is asked for, once both traces are accepted and there is room. The marks are kept in a local array until BELOW is decided.
 fn follow(a: &[i32], b: &[i32], m: usize, n: usize, strip: &mut [u8], work: &mut [u8]) -> Followed
     requires { ⌜ PairCounts (now a) (now b) m n × Enough (now a) (now b) (now strip) (now work) ⌝ }
     ensures { λ r. ⌜ NextAnswer (now (a .entry)) (now (b .entry)) (now (strip .entry)) (now (work .entry)) (now (strip .exit)) (now (work .exit)) r ⌝ }

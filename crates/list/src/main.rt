@@ -5,11 +5,22 @@ use libc::STDIN_FILENO;
 use libc::STDOUT_FILENO;
 use listing::Listed;
 
-// One byte more than may be read, so that longer input is seen to be longer.
+// One byte more than may be read, so that longer input is seen to be longer. A read that fails ends the text too soon: unless the end is
+// certain, the whole array is taken for the text, which is too long, and so TEXT.
 fn main() {
     let mut text = [0u8; 60_001];
     let read = io::read_full(STDIN_FILENO, &mut text);
-    print(&text[..read]);
+    if at_end() {
+        print(&text[..read]);
+    } else {
+        print(&text);
+    }
+}
+
+// Whether standard input is at its end: one more read answers 0.
+fn at_end() -> bool {
+    let mut one = [0u8; 1];
+    libc::read(STDIN_FILENO, &mut one) == 0
 }
 
 // Room for the longest listing.
