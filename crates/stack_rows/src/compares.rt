@@ -1,117 +1,51 @@
-// Lists held against each other, and against the guard.
-ghost use lib.IntN.{pos};
-ghost use lib.ListN.{length};
-ghost use Rattle.whole.specs.Tells.{Tells};
-ghost use Rattle.stack_rows.specs.Kept.{AllAre, Begins};
+// The commands that hold what came back against what is in hand, or print it.
+use crate::desk::Desk;
+use crate::lists::part;
+use crate::lists::same_layers;
+use crate::lists::same_numbers;
+use crate::says::tell_bytes;
+use crate::says::tell_same;
+use crate::words::Words;
 
-// Whether all bytes from `from` up to `to` are there, and each is `value`.
-pub(crate) fn bytes_are(list: &[u8], from: usize, to: usize, value: u8) -> bool
-    ensures { λ r. ⌜ Tells (AllAre 0 value (now (list .entry)) from to) r ⌝ }
-{
-    let mut k = from;
-    while k < to {
-        if list.len() <= k {
-            return false;
+pub(crate) fn compare(desk: Desk, words: Words) {
+    let name = words.name;
+    match name {
+        // same_stack LAYERS
+        72_568_443_469 => {
+            let entries = desk.entries;
+            let stack = desk.stack;
+            tell_same(same_layers(entries, stack, 0, words.h));
         }
-        if list[k] != value {
-            return false;
+        // same_coords NUMBERS
+        725_682_800_187 => {
+            let numbers = desk.numbers;
+            let coords = desk.coords;
+            tell_same(same_numbers(&numbers, &coords, 0, words.h));
         }
-        k += 1;
+        // same_strips STEPS
+        725_684_452_407 => {
+            let lent = desk.lent;
+            let strips = desk.strips;
+            tell_same(same_fronts(lent, strips, words.h));
+        }
+        // same_file BYTES
+        7_256_830_353 => {
+            let lent = desk.lent;
+            let file = desk.file;
+            tell_same(same_fronts(lent, file, words.h));
+        }
+        // print FROM TO
+        _ => {
+            let lent = desk.lent;
+            print(lent, words.g, words.h);
+        }
     }
-    true
 }
 
-// Whether all bytes from `from` on are the guard.
-pub(crate) fn sevens_bytes(list: &[u8], from: usize) -> bool
-    ensures { λ r. ⌜ Tells (AllAre 0 7 (now (list .entry)) from (length (now (list .entry)))) r ⌝ }
-{
-    bytes_are(list, from, list.len(), 7)
+fn same_fronts(one: [u8; 50_688], other: [u8; 50_688], many: usize) -> bool {
+    check::same(part(&one, 0, many), part(&other, 0, many))
 }
 
-pub(crate) fn sevens_numbers(list: &[i32], from: usize) -> bool
-    ensures { λ r. ⌜ Tells (AllAre (pos 0) (pos 7) (now (list .entry)) from (length (now (list .entry)))) r ⌝ }
-{
-    let mut k = from;
-    while k < list.len() {
-        if list[k] != 7 {
-            return false;
-        }
-        k += 1;
-    }
-    true
-}
-
-pub(crate) fn sevens_places(list: &[usize], from: usize) -> bool
-    ensures { λ r. ⌜ Tells (AllAre 0 7 (now (list .entry)) from (length (now (list .entry)))) r ⌝ }
-{
-    let mut k = from;
-    while k < list.len() {
-        if list[k] != 7 {
-            return false;
-        }
-        k += 1;
-    }
-    true
-}
-
-pub(crate) fn sevens_vertices(list: &[u32], from: usize) -> bool
-    ensures { λ r. ⌜ Tells (AllAre 0 7 (now (list .entry)) from (length (now (list .entry)))) r ⌝ }
-{
-    let mut k = from;
-    while k < list.len() {
-        if list[k] != 7 {
-            return false;
-        }
-        k += 1;
-    }
-    true
-}
-
-// Whether a list begins with `front`.
-pub(crate) fn same_bytes(list: &[u8], front: &[u8]) -> bool
-    ensures { λ r. ⌜ Tells (Begins 0 (now (list .entry)) (now (front .entry)) (length (now (front .entry)))) r ⌝ }
-{
-    let mut k = 0;
-    while k < front.len() {
-        if list.len() <= k {
-            return false;
-        }
-        if list[k] != front[k] {
-            return false;
-        }
-        k += 1;
-    }
-    true
-}
-
-pub(crate) fn same_numbers(list: &[i32], front: &[i32]) -> bool
-    ensures { λ r. ⌜ Tells (Begins (pos 0) (now (list .entry)) (now (front .entry)) (length (now (front .entry)))) r ⌝ }
-{
-    let mut k = 0;
-    while k < front.len() {
-        if list.len() <= k {
-            return false;
-        }
-        if list[k] != front[k] {
-            return false;
-        }
-        k += 1;
-    }
-    true
-}
-
-pub(crate) fn same_places(list: &[usize], front: &[usize]) -> bool
-    ensures { λ r. ⌜ Tells (Begins 0 (now (list .entry)) (now (front .entry)) (length (now (front .entry)))) r ⌝ }
-{
-    let mut k = 0;
-    while k < front.len() {
-        if list.len() <= k {
-            return false;
-        }
-        if list[k] != front[k] {
-            return false;
-        }
-        k += 1;
-    }
-    true
+fn print(list: [u8; 50_688], from: usize, to: usize) {
+    tell_bytes(&list, from, to);
 }

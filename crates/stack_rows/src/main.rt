@@ -1,95 +1,93 @@
-// 01's rows on a stack and on its register file, a line each: `LABEL: FUNCTION ANSWER, FUNCTION ANSWER, ..`. An answer is what was
-// found, or `refused NUMBER PLACE`. Lent memory is filled with a guard first; `kept` says that every element that the answer does not
-// speak of is still it.
-mod builds;
+// 01's rows on a stack and on its register file. They are data: the text on standard input, the file `stdin` beside `src`, is what is to
+// be printed, with a command in brackets wherever an answer is to stand. So a new row is a line of that text.
+//
+// Outside brackets every byte is printed. Between brackets a command ends with its line, with a semicolon or with the bracket. It is a
+// name and its numbers, always all of them; the first lines of the text list them. A word `#` makes a comment. What is no command is
+// printed behind `what?`. A call prints the numbers of its answer, or `refused NUMBER PLACE`; the word before the numbers (`fit`, `steps`)
+// is the text's. Memory is lent full of the guard, 7, and `kept` says that every element that may not be used is still it.
+mod calls;
 mod changes;
 mod compares;
-mod files;
-mod reading;
-mod refusals;
+mod desk;
+mod lists;
 mod says;
-mod tells;
+mod words;
 
-use crate::builds::pair;
-use crate::builds::tower;
-use crate::builds::tower_coords;
-use crate::says::end;
+use crate::calls::call;
+use crate::desk::Desk;
+use crate::desk::clear;
+use crate::desk::line;
+use crate::desk::moved;
+use crate::lists::part;
 use crate::says::say;
-use crate::says::tell_list;
-use crate::tells::tell_best;
-use crate::tells::tell_four;
-use crate::tells::tell_judged;
+use crate::words::Words;
+use crate::words::none;
+use crate::words::turn;
+use libc::STDIN_FILENO;
+use std::num::wrapping_sub_usize;
 
 fn main() {
-    prism();
-    crate::files::prism_longer();
-    crate::files::prism_again();
-    pyramid();
-    crate::refusals::stacks();
-    crate::refusals::rooms();
-    crate::refusals::strips();
-    crate::changes::every_byte();
-    refused_reading();
+    let mut text = [0u8; 30_000];
+    let many = io::read_full(STDIN_FILENO, &mut text);
+    run(&text[..many]);
 }
 
-fn refused_reading() {
-    crate::reading::lengths();
-    crate::reading::checks();
-    crate::reading::contents();
-    crate::reading::counts();
-    crate::reading::traces();
-    crate::reading::planes();
-    crate::reading::rooms();
-    crate::reading::strips();
+// Each command, as it ends.
+fn run(text: &[u8]) {
+    let mut desk = clear();
+    let mut words = none(false);
+    for k in 0..text.len() {
+        words = turn(words, text[k]);
+        if words.ready {
+            desk = command(
+                desk,
+                words,
+                part(text, wrapping_sub_usize(k + 1, words.long), k + 1),
+            );
+            words = none(words.between);
+        }
+    }
 }
 
-// 01's T, planes 0 and 1: "the prism T" has 12 sixths. Eight triangles: six steps and one in either cap.
-fn prism() {
-    let coords = [0, 0, 2, 0, 0, 2, 0, 0, 2, 0, 0, 2];
-    let stack = pair(0, 1);
-    let mut strips = [7u8; 8];
-    let mut work = [7u8; 20];
-    let mut out = [7u32; 26];
-    let mut file = [7u8; 512];
-    say(b"T: judge_stack");
-    tell_judged(stack::judge_stack(stack, &coords));
-    say(b", best_strips");
-    tell_best(stack, &coords, &mut strips, &mut work, 16);
-    end();
-    // Its first best strip, BABABA.
-    let strips = [1u8, 0, 1, 0, 1, 0];
-    tell_four(b"T", stack, &coords, &strips, &mut out, &mut file);
-    say(b"T: closed list");
-    tell_list(&out, 24);
-    end();
-    crate::files::prism_bytes(&file);
-}
-
-// 20 layers of 250 points: layer k is the rectangle of 2,480 by 2,500 from (-25,000, -25,000), k+1 times as large, at plane 100 k - 1,000.
-// So the stack is a pyramid with its tip over that corner, 100 below the lowest layer, without its tip. Twice the rectangle's area is
-// 12,400,000; a pyramid of height 100 over it has that times 100 as six times its volume, and so times as large 20^3 times that. Without
-// the tip: 12,400,000 · 100 · (20^3 - 1) = 9,918,760,000,000. The rectangles are convex, so the best strips follow the pyramid's sides.
-// The file has 2 + 20·6 + 5,000·8 + 9,500 bytes in 98 blocks.
-fn pyramid() {
-    let coords = tower_coords();
-    let stack = tower();
-    let mut strips = [7u8; 9_500];
-    let mut work = [7u8; 63_002];
-    let mut out = [7u32; 29_990];
-    let mut file = [7u8; 50_176];
-    say(b"20 layers of 250 points: judge_stack");
-    tell_judged(stack::judge_stack(stack, &coords));
-    say(b", best_strips");
-    tell_best(stack, &coords, &mut strips, &mut work, 63_001);
-    end();
-    tell_four(
-        b"20 layers of 250 points",
-        stack,
-        &coords,
-        &strips,
-        &mut out,
-        &mut file,
-    );
-    crate::files::tower_again(stack, &coords, &strips, &file);
-    crate::reading::later_checks(&mut file);
+// By the number of its name. No name, and `#`, is nothing.
+fn command(desk: Desk, words: Words, text: &[u8]) -> Desk {
+    let name = words.name;
+    match name {
+        0 | 243 => desk,
+        // line
+        66_373 => line(desk, words),
+        // layer, step, byte, coords, strips, file, keep, again, take_strips, take_file, take_stack
+        656_896
+        | 74_394
+        | 58_033
+        | 5_800_187
+        | 7_452_407
+        | 60_353
+        | 64_894
+        | 550_532
+        | 735_484_452_407
+        | 7_354_830_353
+        | 73_548_443_469 => moved(desk, words),
+        // judge_stack, judge_strips, volume, best_strips, triangles, closed_list, write, read, seal, files
+        654_808_443_469
+        | 6_548_084_452_407
+        | 7_697_563
+        | 560_434_452_407
+        | 7_522_581_597
+        | 577_028_736_438
+        | 782_433
+        | 71_842
+        | 72_850
+        | 603_597 => call(desk, words),
+        // same_stack, same_coords, same_strips, same_file, print
+        72_568_443_469 | 725_682_800_187 | 725_684_452_407 | 7_256_830_353 | 712_388 => call(
+            desk,
+            words,
+        ),
+        _ => {
+            say(b"what? ");
+            say(text);
+            desk
+        }
+    }
 }

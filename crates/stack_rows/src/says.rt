@@ -1,4 +1,4 @@
-// What is printed: words, numbers, lists.
+// What is printed: words, numbers, refusals, lists.
 use fault::Refusal;
 use libc::STDOUT_FILENO;
 
@@ -6,73 +6,56 @@ pub(crate) fn say(text: &[u8]) {
     io::write_all(STDOUT_FILENO, text);
 }
 
-pub(crate) fn end() {
-    io::write_all(STDOUT_FILENO, b"\n");
+pub(crate) fn say_byte(byte: u8) {
+    io::write_all(STDOUT_FILENO, &[byte]);
 }
 
-pub(crate) fn tell_number(n: u64) {
-    io::write_all(STDOUT_FILENO, b" ");
-    io::print_decimal(STDOUT_FILENO, n);
+// A space and a number.
+pub(crate) fn tell(n: usize) {
+    say_byte(b' ');
+    io::print_decimal(STDOUT_FILENO, n as u64);
 }
 
-// Six times a volume. All that are printed are above zero.
-pub(crate) fn tell_six(six: i64) {
-    if 0 < six {
-        tell_number(six as u64);
-    } else {
-        say(b" not above zero");
-    }
-}
-
-pub(crate) fn tell_refusal(refusal: Refusal) {
+pub(crate) fn refuse(refusal: Refusal) {
     let fault = refusal.fault;
     say(b" refused");
-    tell_number(fault::number(fault) as u64);
-    tell_number(refusal.place as u64);
+    tell(fault::number(fault) as usize);
+    tell(refusal.place);
+}
+
+// Six times a volume, if it is above zero.
+pub(crate) fn tell_six(six: i64) {
+    if 0 < six {
+        tell(six as usize);
+    }
 }
 
 pub(crate) fn tell_kept(kept: bool) {
     if kept {
         say(b" kept");
-    } else {
-        say(b" touched");
     }
 }
 
 pub(crate) fn tell_same(same: bool) {
     if same {
         say(b" same");
-    } else {
-        say(b" different");
     }
-}
-
-fn wide_byte(x: u8) -> u64 {
-    x as u64
 }
 
 // The bytes from `from` up to `to`.
-pub(crate) fn tell_bytes(bytes: &[u8], from: usize, to: usize) {
-    let mut k = from;
-    while k < to {
-        if k < bytes.len() {
-            tell_number(wide_byte(bytes[k]));
+pub(crate) fn tell_bytes(list: &[u8], from: usize, to: usize) {
+    for k in from..to {
+        if k < list.len() {
+            tell(list[k] as usize);
         }
-        k += 1;
     }
 }
 
-fn wide(x: u32) -> u64 {
-    x as u64
-}
-
 // The first `n` numbers.
-pub(crate) fn tell_list(out: &[u32], n: usize) {
-    let mut k = 0;
-    while k < n {
-        if k < out.len() {
-            tell_number(wide(out[k]));
+pub(crate) fn tell_list(list: &[u32], n: usize) {
+    for k in 0..n {
+        if k < list.len() {
+            tell(list[k] as usize);
         }
-        k += 1;
     }
 }

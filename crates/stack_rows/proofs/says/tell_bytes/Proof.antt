@@ -1,26 +1,27 @@
--- `stack_rows::says::tell_bytes` is safe and ends. Assumes nothing.
-use Prim.Native.Nat.{_-_, _≤_}
+-- `stack_rows::says::tell_bytes` is safe and ends: the measure is what is left of the bytes, and a byte fits a number. Assumes nothing.
+use native.Mathlib.Omega.{arith}
+use Prim.Native.Nat.{_-_}
 use borrow.Author.Needs.{needs}
 use Rattle.stack_rows.proofs.says.tell_bytes.Statement.{statement}
 use Rattle.stack_rows.proofs.says.tell_bytes.Tie as tie
 
 abbrev Inv-loop : tie.InvT-loop
-Inv-loop bytes from to k₀ k = from ≤ k
+Inv-loop list from to k₀ k = Unit {0}
 
 abbrev μ-loop : tie.MeasureT-loop
-μ-loop bytes from to k₀ k = to - k
+μ-loop list from to k₀ k = to - k
 
 loop-holds : tie.Need-loop-holds Inv-loop μ-loop
 loop-holds c = search needs
 
-shared-slice-read-wide-byte : tie.Need-shared-slice-read-wide-byte Inv-loop μ-loop
-shared-slice-read-wide-byte c = search needs
+shared-slice-read-tell : tie.Need-shared-slice-read-tell Inv-loop μ-loop
+shared-slice-read-tell c = search needs
 
-wide-byte-requires : tie.Need-wide-byte-requires Inv-loop μ-loop
-wide-byte-requires c κs = search needs
+cast-tell : tie.Need-cast-tell Inv-loop μ-loop
+cast-tell c = omega (arith, c .shared-slice-known2 .given (c .before .before .before .loop .k))
 
-tell-number-requires : tie.Need-tell-number-requires Inv-loop μ-loop
-tell-number-requires c κs = search needs
+tell-requires : tie.Need-tell-requires Inv-loop μ-loop
+tell-requires c κs = search needs
 
 add-k : tie.Need-add-k Inv-loop μ-loop
 add-k c = search needs
@@ -41,9 +42,9 @@ tell-bytes-spec =
     Inv-loop
     μ-loop
     loop-holds
-    shared-slice-read-wide-byte
-    wide-byte-requires
-    tell-number-requires
+    shared-slice-read-tell
+    cast-tell
+    tell-requires
     add-k
     loop-less
     loop-again

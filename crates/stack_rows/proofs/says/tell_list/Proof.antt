@@ -1,29 +1,30 @@
--- `stack_rows::says::tell_list` is safe and ends. Assumes nothing.
-use Prim.Native.Nat.{_-_, _≤_}
+-- `stack_rows::says::tell_list` is safe and ends: the measure is what is left of the numbers, and a vertex fits a number. Assumes nothing.
+use native.Mathlib.Omega.{arith}
+use Prim.Native.Nat.{_-_}
 use borrow.Author.Needs.{needs}
 use Rattle.stack_rows.proofs.says.tell_list.Statement.{statement}
 use Rattle.stack_rows.proofs.says.tell_list.Tie as tie
 
 abbrev Inv-loop : tie.InvT-loop
-Inv-loop out n k₀ k = k ≤ n
+Inv-loop list n k₀ k = Unit {0}
 
 abbrev μ-loop : tie.MeasureT-loop
-μ-loop out n k₀ k = n - k
+μ-loop list n k₀ k = n - k
 
 loop-holds : tie.Need-loop-holds Inv-loop μ-loop
 loop-holds c = search needs
 
-mul-wide : tie.Need-mul-wide Inv-loop μ-loop
-mul-wide c = search needs
+mul-tell : tie.Need-mul-tell Inv-loop μ-loop
+mul-tell c = search needs
 
-shared-slice-read-wide : tie.Need-shared-slice-read-wide Inv-loop μ-loop
-shared-slice-read-wide c = search needs
+shared-slice-read-tell : tie.Need-shared-slice-read-tell Inv-loop μ-loop
+shared-slice-read-tell c = search needs
 
-wide-requires : tie.Need-wide-requires Inv-loop μ-loop
-wide-requires c κs = search needs
+cast-tell : tie.Need-cast-tell Inv-loop μ-loop
+cast-tell c = omega (arith, c .shared-slice-known2 .given (c .before .before .before .loop .k))
 
-tell-number-requires : tie.Need-tell-number-requires Inv-loop μ-loop
-tell-number-requires c κs = search needs
+tell-requires : tie.Need-tell-requires Inv-loop μ-loop
+tell-requires c κs = search needs
 
 add-k : tie.Need-add-k Inv-loop μ-loop
 add-k c = search needs
@@ -44,10 +45,10 @@ tell-list-spec =
     Inv-loop
     μ-loop
     loop-holds
-    mul-wide
-    shared-slice-read-wide
-    wide-requires
-    tell-number-requires
+    mul-tell
+    shared-slice-read-tell
+    cast-tell
+    tell-requires
     add-k
     loop-less
     loop-again

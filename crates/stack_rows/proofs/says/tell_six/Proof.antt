@@ -1,4 +1,4 @@
--- `stack_rows::says::tell_six` is safe: a number above zero is one without a sign. Assumes nothing.
+-- `stack_rows::says::tell_six` is safe and ends: a number above zero is one without a sign. Assumes nothing.
 use mir.Syntax.{w64}
 use mir.Val.{ofZ}
 use Rattle.whole.proofs.Machine.{to-unsigned}
@@ -6,17 +6,11 @@ use borrow.Author.Needs.{needs}
 use Rattle.stack_rows.proofs.says.tell_six.Statement.{statement}
 use Rattle.stack_rows.proofs.says.tell_six.Tie as tie
 
-cast-tell-number : tie.Need-cast-tell-number
-cast-tell-number c = to-unsigned (ofZ w64 (c .before .args .six)) (c .if1 .taken)
+cast-tell : tie.Need-cast-tell
+cast-tell c = to-unsigned (ofZ w64 (c .before .args .six)) (c .if1 .taken)
 
-tell-number-requires : tie.Need-tell-number-requires
-tell-number-requires c κs = search needs
-
-slice-aggregate-say : tie.Need-slice-aggregate-say
-slice-aggregate-say c = search needs
-
-say-requires : tie.Need-say-requires
-say-requires c κs = search needs
+tell-requires : tie.Need-tell-requires
+tell-requires c κs = search needs
 
 returns : tie.Need-returns
 returns c = search needs
@@ -25,12 +19,4 @@ returns-2 : tie.Need-returns-2
 returns-2 c = search needs
 
 pub tell-six-spec : {M : Type 1} → statement M
-tell-six-spec =
-    tie.close
-    (tie.spec
-    cast-tell-number
-    tell-number-requires
-    slice-aggregate-say
-    say-requires
-    returns
-    returns-2)
+tell-six-spec = tie.close (tie.spec cast-tell tell-requires returns returns-2)

@@ -1,2 +1,0 @@
--- The laws behind `kept` and `same`.
-mod KeptLaws

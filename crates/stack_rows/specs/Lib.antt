@@ -1,2 +1,0 @@
--- What `kept` and `same` mean.
-pub mod Kept
