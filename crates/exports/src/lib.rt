@@ -1,7 +1,7 @@
 // The entry points for programs in other languages, under plain names; include/register.h declares them. An answer is a number (0 for
 // success, 100 for none left, else the refusal's), a place and what was found.
-mod files;
-mod stacks;
+pub mod files;
+pub mod stacks;
 
 ghost use mathlib.Core.Path.{_≡_};
 ghost use Rattle.fault.specs.declared.Refusal.{Refusal};
