@@ -1,0 +1,46 @@
+-- `rows::lists::bytes_are` is safe and ends: the measure is what is left of the elements. Assumes nothing.
+use Prim.Native.Nat.{_-_}
+use borrow.Author.Needs.{needs}
+use Rattle.rows.proofs.lists.bytes_are.Statement.{statement}
+use Rattle.rows.proofs.lists.bytes_are.Tie as tie
+
+abbrev Inv-loop : tie.InvT-loop
+Inv-loop list from to value k₀ k = Unit {0}
+
+abbrev μ-loop : tie.MeasureT-loop
+μ-loop list from to value k₀ k = to - k
+
+loop-holds : tie.Need-loop-holds Inv-loop μ-loop
+loop-holds c = search needs
+
+shared-slice-read-if2 : tie.Need-shared-slice-read-if2 Inv-loop μ-loop
+shared-slice-read-if2 c = search needs
+
+returns : tie.Need-returns Inv-loop μ-loop
+returns c = search needs
+
+add-k : tie.Need-add-k Inv-loop μ-loop
+add-k c = search needs
+
+loop-less : tie.Need-loop-less Inv-loop μ-loop
+loop-less c = search needs
+
+loop-again : tie.Need-loop-again Inv-loop μ-loop
+loop-again c = search needs
+
+returns-2 : tie.Need-returns-2 Inv-loop μ-loop
+returns-2 c = search needs
+
+pub bytes-are-spec : {M : Type 1} → statement M
+bytes-are-spec =
+    tie.close
+    (tie.spec
+    Inv-loop
+    μ-loop
+    loop-holds
+    shared-slice-read-if2
+    returns
+    add-k
+    loop-less
+    loop-again
+    returns-2)
