@@ -44,11 +44,6 @@ struct register_stack_answer {
     size_t steps;  /* of all bands */
 };
 
-struct register_strips_answer {
-    uint8_t number;
-    size_t place;
-};
-
 struct register_steps_answer {
     uint8_t number;
     size_t place;
@@ -96,11 +91,6 @@ struct register_run_answer register_list_best(const int32_t *a, size_t a_len, co
 /* Of a stack: 11, 1, 12, then trace by trace 2 to 6, then 7. */
 struct register_stack_answer register_judge_stack(const struct register_layer *layers, size_t layers_len, const int32_t *coords,
                                                   size_t coords_len);
-
-/* The strips of all bands from the bottom, one after another: 9 at 0 if they do not fill their slice (or there are over 20 layers), else
- * at the lowest band whose part is no strip. The stack itself is not judged. */
-struct register_strips_answer register_judge_strips(const struct register_layer *layers, size_t layers_len, const uint8_t *strips,
-                                                    size_t strips_len);
 
 /* The first best strip of every band. A byte for each step of all bands, and the (m+1)(n+1) work bytes of the band that needs most. */
 struct register_steps_answer register_best_strips(const struct register_layer *layers, size_t layers_len, const int32_t *coords,

@@ -34,8 +34,8 @@ static void differ(const char *why) {
 
 /* counts of answers by number */
 static unsigned long answers[16][101];
-enum { JUDGE, JUDGE_STRIP, BEST, NEXT, LIST, STACK, STRIPS, BANDS, VOLUME, TRIANGLES, WRITE, READ, LISTING };
-static const char *const names[] = {"judge",       "judge_strip", "best",      "next",  "list_best", "judge_stack", "judge_strips",
+enum { JUDGE, JUDGE_STRIP, BEST, NEXT, LIST, STACK, BANDS, VOLUME, TRIANGLES, WRITE, READ, LISTING };
+static const char *const names[] = {"judge",       "judge_strip", "best",      "next",  "list_best", "judge_stack",
                                     "best_strips", "volume",      "triangles", "write", "read",      "listing"};
 
 static void told(int entry, unsigned number) {
@@ -501,15 +501,6 @@ static void same_read(const uint8_t *f, size_t len) {
         give_back(&lent[k]);
 }
 
-static void try_strips(const struct register_layer *st, size_t layers, size_t steps) {
-    struct own_answer g = {9, 0};
-    if (layers <= 20)
-        g = own_strips_fault(es, layers, ss, steps);
-    struct register_strips_answer s = register_judge_strips(st, layers, ss, steps);
-    told_of_layers(STRIPS, s.number);
-    SAME(s.number == g.number && s.place == g.place, "number or place");
-}
-
 static void try_stack(size_t most, int spoil) {
     size_t layers = below(12) == 0 ? below(4) == 0 ? 21 + below(3) : below(2) : 2 + below(below(8) ? 3 : 19);
     size_t len = make_stack(layers, most, spoil);
@@ -527,9 +518,6 @@ static void try_stack(size_t most, int spoil) {
             ss[below(steps)] = (uint8_t)below(3);
         if (below(8) == 0)
             steps--;
-        try_strips(st, layers, steps);
-    } else if (f.number == 11) {
-        try_strips(st, layers, below(2) ? 0 : steps);
     }
     try_bands(st, layers, len, f);
     try_triangles(st, layers, len, f, steps);

@@ -2,7 +2,7 @@
 -- lent memory as it was. And what success fills in are strips of the stack, so that they are accepted where strips are judged; every
 -- accepted stack has them.
 --
--- Of two outcomes the one that comes later in 01's order contradicts the earlier; where both are strips, each band's first best strip
+-- What the gates stop has not passed them; where both are strips, each band's first best strip
 -- is one, so the bytes agree band by band from the bottom up. Assumes nothing.
 use mathlib.Core.Path.{_≡_, refl, sym, ap, ap₂, _∙_}
 use mathlib.Core.List.{List, [], _++_}
@@ -27,12 +27,13 @@ use Rattle.stack.specs.Faults.{AcceptedStack}
 use Rattle.stack.specs.Strips.{bandPart, StripsRight}
 use Rattle.stack.specs.Gathered.{Gathers}
 use Rattle.stack.specs.Laid.{laid}
-use Rattle.stack.proofs.Exact.{refused-once, refused-not-accepted}
+use Rattle.fault.proofs.GateLaws.{due-single, holds, one-stop, stopped-not-passed}
+use Rattle.stack.proofs.Cases.{stack-single, stack-open}
 use Rattle.stack.proofs.Laying.{laid-gathers}
 use Rattle.stack.proofs.StackLaws.{band-all}
 use Rattle.bands.specs.declared.Banded.{Banded}
 use Rattle.bands.specs.declared.Banded.the-variants as bands-are
-use Rattle.bands.specs.Bands.{BandBest, AllBest, BandsAnswer, stack, room, best}
+use Rattle.bands.specs.Bands.{BandBest, AllBest, bandsGates, BandsAnswer, refused, best}
 use Rattle.bands.proofs.FillLaws.{band-strip, long-more, best-more}
 
 -- ---- the strips of all bands are one
@@ -88,14 +89,13 @@ module _ {es : List Layer} {c : List ℤ} (a : AcceptedStack es c) where
 module _ {es : List Layer} {c : List ℤ} {strips work : List ℕ} where
   pub bands-unique : {r r′ : Banded} {s s′ w w′ : List ℕ} → BandsAnswer es c strips work s w r → BandsAnswer es c strips work s′ w′ r′
       → Same r r′ s s′ w w′
-  bands-unique (stack p) (stack q) = record { answer = ap bands-are.Refused (refused-once p q); strips = refl; works = refl }
-  bands-unique (stack p) (room a _) = absurd (refused-not-accepted p a)
-  bands-unique (stack p) (best a _ _ _) = absurd (refused-not-accepted p a)
-  bands-unique (room a _) (stack q) = absurd (refused-not-accepted q a)
-  bands-unique (room _ _) (room _ _) = record { answer = refl; strips = refl; works = refl }
-  bands-unique (room _ n) (best _ m _ _) = absurd (n m)
-  bands-unique (best a _ _ _) (stack q) = absurd (refused-not-accepted q a)
-  bands-unique (best _ m _ _) (room _ n) = absurd (n m)
+  bands-unique (refused {r = r} x) (refused {r = q} y) = record {
+    answer = ap bands-are.Refused (one-stop (bandsGates es c strips work) (stack-single, (due-single, tt)) r q x y);
+    strips = refl;
+    works = refl;
+  }
+  bands-unique (refused {r = r} x) (best a m _ _) = absurd (stopped-not-passed (bandsGates es c strips work) r x (stack-open a, (holds m, tt)))
+  bands-unique (best a m _ _) (refused {r = r} x) = absurd (stopped-not-passed (bandsGates es c strips work) r x (stack-open a, (holds m, tt)))
   bands-unique (best a _ l b) (best _ _ l′ b′) = record {
     answer = refl;
     strips = ap (λ (x : List ℕ). x ++ drop (steps es) strips) (all-best-unique b b′ (omega (arith, a .layers .two)));
@@ -104,8 +104,7 @@ module _ {es : List Layer} {c : List ℤ} {strips work : List ℕ} where
 
   pub bands-refused-untouched : {r : Refusal} {s w : List ℕ} → BandsAnswer es c strips work s w (bands-are.Refused r)
       → Untouched strips work s w
-  bands-refused-untouched (stack _) = record { stripSame = refl; workSame = refl }
-  bands-refused-untouched (room _ _) = record { stripSame = refl; workSame = refl }
+  bands-refused-untouched (refused _) = record { stripSame = refl; workSame = refl }
 
 -- `best_strips` leaves one answer for each input: every Stack gathers some entries.
 pub best-strips-unique : (st : Stack) (c : List ℤ) (strips work : List ℕ) {r r′ : Banded} {s s′ w w′ : List ℕ}

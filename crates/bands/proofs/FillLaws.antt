@@ -12,13 +12,14 @@ use lib.Seq.{take-all, take-at, drop-at, drop-drop, take-append-le, drop-append-
 use borrow.Rule.Slice.PartMut.{putMid, same-len-mid}
 use Rattle.whole.proofs.Parts.{part-lent, part-back}
 use Rattle.trace.specs.Points.{count}
-use Rattle.trace.specs.Pair.{Pair}
-use Rattle.trace.proofs.PairLaws.{refused-not-pair}
+use Rattle.strip.specs.Pair.{Pair}
 use Rattle.ways.specs.Strip.{Step}
 use Rattle.strip.specs.declared.Valued.{Valued}
 use Rattle.strip.specs.Bytes.{bytes, IsStrip}
 use Rattle.strip.proofs.BytesLaws.{is-strip-length}
-use Rattle.joining.specs.Answers.{FirstOf, Enough, Given, Cleared, BestAnswer}
+use Rattle.joining.specs.Answers.{FirstOf, Enough, Given, Cleared, bestGates, BestAnswer}
+use Rattle.joining.proofs.BestCases.{best-passed}
+use Rattle.fault.proofs.GateLaws.{stopped-not-passed}
 use Rattle.joining.specs.Answers as best-is
 use Rattle.stack.specs.declared.Layer.{Layer}
 use Rattle.stack.specs.declared.Stack.{Stack}
@@ -50,9 +51,8 @@ pub record Put (a b : List ℤ) (part work part′ work′ : List ℕ) : Type 0 
 
 put-best : {a b : List ℤ} {part work part′ work′ : List ℕ} {r : Valued} → Pair a b → Enough a b part work
     → BestAnswer a b part work part′ work′ r → Put a b part work part′ work′
-put-best p e (best-is.BestAnswer.pair q _) = absurd (refused-not-pair q p)
-put-best p e (best-is.BestAnswer.room _ n _) = absurd (n e)
-put-best p e (best-is.BestAnswer.best _ _ s f g c) = record { strip = s; first = f; given = g; cleared = c }
+put-best {a} {b} {part} {work} p e (best-is.BestAnswer.refused {r = r} x _) = absurd (stopped-not-passed (bestGates a b part work) r x (best-passed p e))
+put-best p e (best-is.BestAnswer.best _ s f g c) = record { strip = s; first = f; given = g; cleared = c }
 
 module _ {st : Stack} {c : List ℤ} {k : ℕ} {part work : List ℕ} (y : BandReady st c k part work) where
   inside : suc k < length (laid st)

@@ -9,14 +9,13 @@ use lib.IntN.{ℤ}
 use lib.ListN.{length, drop, replicate}
 use Rattle.fault.specs.declared.Refusal.{Refusal}
 use Rattle.fault.specs.declared.Fault.the-variants.{Room}
-use Rattle.trace.specs.Pair.{at}
+use Rattle.fault.specs.Gates.{Gate, unless, Stopped}
 use Rattle.ways.specs.Strip.{Step}
 use Rattle.strip.specs.Bytes.{bytes}
 use Rattle.joining.specs.Answers.{FirstOf}
 use Rattle.stack.specs.declared.Layer.{Layer}
-use Rattle.stack.specs.declared.StackJudgement.the-variants as stack-is
 use Rattle.stack.specs.Entries.{entry, traceOf, steps}
-use Rattle.stack.specs.Faults.{AcceptedStack, StackJudged}
+use Rattle.stack.specs.Faults.{AcceptedStack, stackGates}
 use Rattle.stack.specs.Strips.{bandPart}
 use Rattle.bands.specs.declared.Banded.{Banded}
 use Rattle.bands.specs.declared.Banded.the-variants as bands-are
@@ -41,9 +40,12 @@ pub record AllBest (es : List Layer) (c : List ℤ) (l : List ℕ) : Type 0 wher
   pub long : length l ≡ steps es
   pub best : (k : ℕ) → suc k < length es → BandBest es c l k
 
+-- the stack, then ROOM
+abbrev pub bandsGates : List Layer → List ℤ → List ℕ → List ℕ → List Gate
+bandsGates es c strips work = Stopped (stackGates es c) ∷ unless Room (EnoughRoom es strips work) ∷ []
+
 pub data BandsAnswer (es : List Layer) (c : List ℤ) (strips work : List ℕ) : List ℕ → List ℕ → Banded → Type 0 where
-  stack : {r : Refusal} → StackJudged es c (stack-is.Refused r) → BandsAnswer es c strips work strips work (bands-are.Refused r)
-  room : AcceptedStack es c → (EnoughRoom es strips work → ⊥) → BandsAnswer es c strips work strips work (bands-are.Refused (at Room 0))
+  refused : {r : Refusal} → Stopped (bandsGates es c strips work) r → BandsAnswer es c strips work strips work (bands-are.Refused r)
   best : AcceptedStack es c → EnoughRoom es strips work → (l : List ℕ) → AllBest es c l
       → BandsAnswer es c strips work (l ++ drop (steps es) strips) (replicate (mostCells es) 0 ++ drop (mostCells es) work)
       (bands-are.Steps (steps es))

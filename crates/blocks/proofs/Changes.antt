@@ -8,12 +8,12 @@ use native.Mathlib.Omega.{arith}
 use lib.ListN.{length, getD, take, drop, set, length-set}
 use lib.Seq.{set-comm, getD-drop}
 use Rattle.fault.specs.declared.Fault.the-variants.{Check}
-use Rattle.trace.specs.Pair.{at}
+use Rattle.fault.specs.Gates.{at}
 use Rattle.whole.specs.Lowest.{Lowest}
-use Rattle.blocks.specs.declared.BlocksJudgement.{BlocksJudgement}
 use Rattle.blocks.specs.declared.BlocksJudgement.the-variants as blocks-are
 use Rattle.blocks.specs.Blocks.{checkOf, two, tailOf, blockAt, contentsAt}
-use Rattle.blocks.specs.Faults.{WholeBlocks, CheckFault, Sound, BlocksJudged, check, sound}
+use Rattle.blocks.specs.Faults.{WholeBlocks, CheckFault, Sound, BlocksJudged, sound}
+use Rattle.blocks.proofs.Cases.{check}
 use Rattle.blocks.proofs.OpenLaws.{less-or-not}
 use Rattle.blocks.proofs.Exact.{judged-unique}
 use Rattle.blocks.proofs.RoundTrip.{Right, sound-right, right-fault, wrong-fault}
@@ -24,8 +24,8 @@ use Rattle.blocks.proofs.BlockLaws.{block-at, block-past, block-set, bl
 
 -- a file that has the blocks of a sound one below b, and a wrong block b, is refused with CHECK at b
 refused-at : {f g : List ℕ} {n b : ℕ} → Sound f n → length g ≡ length f → b < n → ((c : ℕ) → c < b → blockAt g c ≡ blockAt f c)
-    → (Right b (blockAt g b) → ⊥) → {r : BlocksJudgement} → BlocksJudged g r → r ≡ blocks-are.Refused (at Check b)
-refused-at {f} {g} {n} {b} s e h same wrong j = judged-unique j (check whole lowest)
+    → (Right b (blockAt g b) → ⊥) → BlocksJudged g (blocks-are.Refused (at Check b))
+refused-at {f} {g} {n} {b} s e h same wrong = check whole lowest
   where
     whole : WholeBlocks g n
     whole = record { whole = e ∙ s .blocks .whole; some = s .blocks .some; few = s .blocks .few }
@@ -38,9 +38,8 @@ refused-at {f} {g} {n} {b} s e h same wrong j = judged-unique j (check whole low
     }
 
 -- what is refused is not sound
-not-sound : {g : List ℕ} {b : ℕ} → ((r : BlocksJudgement) → BlocksJudged g r → r ≡ blocks-are.Refused (at Check b))
-    → (m : ℕ) → Sound g m → ⊥
-not-sound {b = b} f m s = other (f (blocks-are.Sound m) (sound s))
+not-sound : {g : List ℕ} {b : ℕ} → BlocksJudged g (blocks-are.Refused (at Check b)) → (m : ℕ) → Sound g m → ⊥
+not-sound {b = b} j m s = other (judged-unique (sound s) j)
   where
     other : blocks-are.Sound m ≡ blocks-are.Refused (at Check b) → ⊥
     other e = let z : _≡_ {A = ℕ} 0 1 = cc in omega arith
@@ -65,7 +64,7 @@ stored-check {f} s b h =
 module _ {f : List ℕ} {n : ℕ} (s : Sound f n) (i v : ℕ) (inside : i < length f) (old : getD f i 0 < 256) (new : v < 256)
     (changed : v ≡ getD f i 0 → ⊥) where
   -- a sound file with one byte changed is refused with CHECK at that byte's block
-  pub one-byte-refused : {r : BlocksJudgement} → BlocksJudged (set f i v) r → r ≡ blocks-are.Refused (at Check (i / 512))
+  pub one-byte-refused : BlocksJudged (set f i v) (blocks-are.Refused (at Check (i / 512)))
   one-byte-refused =
       refused-at s (length-set f i v) (omega (arith, s .blocks .whole)) (λ c h. block-before f c i v h) wrong
     where
@@ -84,7 +83,7 @@ module _ {f : List ℕ} {n : ℕ} (s : Sound f n) (i v : ℕ) (inside : i < leng
 
   -- a sound file with one byte changed is not sound, whatever number of blocks is meant
   pub one-byte-changed : (m : ℕ) → Sound (set f i v) m → ⊥
-  one-byte-changed = not-sound (λ r. one-byte-refused)
+  one-byte-changed = not-sound one-byte-refused
 
 -- ---- two bytes exchanged
 
@@ -124,7 +123,7 @@ exchanged-long f i j = length-set (set f i (getD f j 0)) j (getD f i 0) ∙ leng
 -- the first of the two stands before the other
 exchanged-refused : {f : List ℕ} {n : ℕ} → Sound f n → (i j : ℕ) → i < j → i / 512 ≡ j / 512 → j % 512 < 508 → i < length f
     → getD f i 0 < 256 → getD f j 0 < 256 → (getD f i 0 ≡ getD f j 0 → ⊥)
-    → {r : BlocksJudgement} → BlocksJudged (exchanged f i j) r → r ≡ blocks-are.Refused (at Check (i / 512))
+    → BlocksJudged (exchanged f i j) (blocks-are.Refused (at Check (i / 512)))
 exchanged-refused {f} s i j h same cj inside hx hy n≢ =
     refused-at s (exchanged-long f i j) (omega (arith, s .blocks .whole))
     (λ c l. exchanged-before f i j c l (omega arith))
@@ -144,8 +143,8 @@ exchanged-refused {f} s i j h same cj inside hx hy n≢ =
 module _ {f : List ℕ} {n : ℕ} (s : Sound f n) (i j : ℕ) (same : i / 512 ≡ j / 512) (ci : i % 512 < 508) (cj : j % 512 < 508)
     (inside : i < length f) (hx : getD f i 0 < 256) (hy : getD f j 0 < 256) (unequal : getD f i 0 ≡ getD f j 0 → ⊥) where
   -- a sound file with two unequal bytes of one block's contents exchanged is refused with CHECK at that block
-  pub two-bytes-refused : {r : BlocksJudgement} → BlocksJudged (exchanged f i j) r → r ≡ blocks-are.Refused (at Check (i / 512))
-  two-bytes-refused {r} g = go (less-or-not i j)
+  pub two-bytes-refused : BlocksJudged (exchanged f i j) (blocks-are.Refused (at Check (i / 512)))
+  two-bytes-refused = go (less-or-not i j)
     where
       apart : i ≡ j → ⊥
       apart e = unequal (ap (λ (k : ℕ). getD f k 0) e)
@@ -156,16 +155,16 @@ module _ {f : List ℕ} {n : ℕ} (s : Sound f n) (i j : ℕ) (same : i / 512 �
       less : j ≤ i → j < i
       less h = let n : i ≡ j → ⊥ = apart in omega arith
 
-      go : (i < j) ⊎ (j ≤ i) → r ≡ blocks-are.Refused (at Check (i / 512))
-      go (inl h) = exchanged-refused s i j h same cj inside hx hy unequal g
+      go : (i < j) ⊎ (j ≤ i) → BlocksJudged (exchanged f i j) (blocks-are.Refused (at Check (i / 512)))
+      go (inl h) = exchanged-refused s i j h same cj inside hx hy unequal
       go (inr h) =
-          exchanged-refused s j i (less h) (sym same) ci below hy hx (λ e. unequal (sym e))
-          (subst (λ (l : List ℕ). BlocksJudged l r) (sym (exchanged-turned f i j apart)) g)
-          ∙ ap (λ (b : ℕ). blocks-are.Refused (at Check b)) (sym same)
+          subst (λ (b : ℕ). BlocksJudged (exchanged f i j) (blocks-are.Refused (at Check b))) (sym same)
+          (subst (λ (l : List ℕ). BlocksJudged l (blocks-are.Refused (at Check (j / 512)))) (exchanged-turned f i j apart)
+          (exchanged-refused s j i (less h) (sym same) ci below hy hx (λ e. unequal (sym e))))
 
   -- a sound file with two unequal bytes of one block's contents exchanged is not sound
   pub two-bytes-exchanged : (m : ℕ) → Sound (exchanged f i j) m → ⊥
-  two-bytes-exchanged = not-sound (λ r. two-bytes-refused)
+  two-bytes-exchanged = not-sound two-bytes-refused
 
 -- ---- two blocks exchanged
 
@@ -215,25 +214,27 @@ module _ {f : List ℕ} {n : ℕ} (s : Sound f n) (b c : ℕ) (hb : b < n) (hc :
   few d h = omega (arith, s .blocks .few)
 
   -- a sound file with two of its blocks exchanged is refused with CHECK at the lower place, even if the contents are the same
-  pub two-blocks-refused : {r : BlocksJudgement} → BlocksJudged (exchangedBlocks f b c) r → r ≡ blocks-are.Refused (at Check (min b c))
-  two-blocks-refused {r} g = go (less-or-not b c)
+  pub two-blocks-refused : BlocksJudged (exchangedBlocks f b c) (blocks-are.Refused (at Check (min b c)))
+  two-blocks-refused = go (less-or-not b c)
     where
       lower : c ≤ b → c < b
       lower h = let n : b ≡ c → ⊥ = apart in omega arith
 
-      go : (b < c) ⊎ (c ≤ b) → r ≡ blocks-are.Refused (at Check (min b c))
+      lower-one : {d : ℕ} → d ≡ min b c → BlocksJudged (exchangedBlocks f b c) (blocks-are.Refused (at Check d))
+          → BlocksJudged (exchangedBlocks f b c) (blocks-are.Refused (at Check (min b c)))
+      lower-one e j = subst (λ (d : ℕ). BlocksJudged (exchangedBlocks f b c) (blocks-are.Refused (at Check d))) e j
+
+      go : (b < c) ⊎ (c ≤ b) → BlocksJudged (exchangedBlocks f b c) (blocks-are.Refused (at Check (min b c)))
       go (inl h) =
           let e : b ≡ min b c = omega arith in
-          refused-at s blocks-long hb (λ d l. blocks-below d l (omega arith))
-          (λ q. apart (one-place b c (blockAt f c) (few b hb) (few c hc) (subst (Right b) (at-b h) q) (sound-right s c hc))) g
-          ∙ ap (λ (d : ℕ). blocks-are.Refused (at Check d)) e
+          lower-one e (refused-at s blocks-long hb (λ d l. blocks-below d l (omega arith))
+          (λ q. apart (one-place b c (blockAt f c) (few b hb) (few c hc) (subst (Right b) (at-b h) q) (sound-right s c hc))))
       go (inr h) =
           let l : c < b = lower h in
           let e : c ≡ min b c = omega arith in
-          refused-at s blocks-long hc (λ d l. blocks-below d (omega arith) l)
-          (λ q. apart (one-place b c (blockAt f b) (few b hb) (few c hc) (sound-right s b hb) (subst (Right c) at-c q))) g
-          ∙ ap (λ (d : ℕ). blocks-are.Refused (at Check d)) e
+          lower-one e (refused-at s blocks-long hc (λ d l. blocks-below d (omega arith) l)
+          (λ q. apart (one-place b c (blockAt f b) (few b hb) (few c hc) (sound-right s b hb) (subst (Right c) at-c q))))
 
   -- a sound file with two of its blocks exchanged is not sound
   pub two-blocks-exchanged : (m : ℕ) → Sound (exchangedBlocks f b c) m → ⊥
-  two-blocks-exchanged = not-sound (λ r. two-blocks-refused)
+  two-blocks-exchanged = not-sound two-blocks-refused

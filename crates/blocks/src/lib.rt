@@ -1,7 +1,7 @@
 // The blocks of the register file: each with its contents, their check and two zero bytes. Files are judged and opened here, and
 // contents are sealed; what the contents say is the matter of the layer above.
 ghost use mathlib.Core.Path.{_≡_};
-ghost use Rattle.trace.specs.Pair.{at};
+ghost use Rattle.fault.specs.Gates.{at};
 ghost use Rattle.blocks.specs.Faults.{BlocksJudged, SealAnswer};
 ghost use Rattle.blocks.specs.Opened.{Opened};
 use crate::judging::first_wrong;

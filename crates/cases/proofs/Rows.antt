@@ -14,8 +14,9 @@ use Rattle.fault.specs.declared.Fault.the-variants.{Twin, Turn, Strip, Below}
 use Rattle.trace.specs.declared.Judgement.the-variants.{Fit, Unfit}
 use Rattle.trace.specs.Points.{count, px, py, segment, twiceArea}
 use Rattle.trace.specs.Judged.{judged, verdictOf, outAt, twinAt, inRange}
-use Rattle.trace.specs.Pair.{Pair, at, lower}
-use Rattle.trace.proofs.Exact.{fit-exactly}
+use Rattle.fault.specs.Gates.{at}
+use Rattle.strip.specs.Pair.{Pair, lower}
+use Rattle.trace.proofs.Exact.{fit-exactly, given-of}
 use Rattle.ways.specs.Strip.{Step, A, B, stepsA, stepsB}
 use Rattle.ways.specs.Strip as Ways
 use Rattle.ways.specs.Value.{valueFrom}
@@ -24,10 +25,12 @@ use Rattle.ways.specs.Keppel.{top, pointer, alsoB, trace, traced, maxℤ}
 use Rattle.ways.proofs.Answers.{nothing-greater, first-is-rule-13}
 use Rattle.strip.specs.Worth.{W, worths, worthA, worthB}
 use Rattle.strip.specs.Bytes.{bytes, times, IsStrip}
-use Rattle.strip.specs.Judging.{StripJudged, pair, strip, other}
+use Rattle.strip.specs.Judging.{StripJudged}
+use Rattle.strip.proofs.JudgingLaws.{pair, strip, other}
 use Rattle.strip.specs.declared.Valued.the-variants.{Value, Refused}
 use Rattle.joining.specs.declared.Followed.the-variants as Followed
-use Rattle.joining.specs.Answers.{Enough, HandedIn, NextAnswer, below, noneLeft}
+use Rattle.joining.specs.Answers.{Enough, HandedIn, NextAnswer}
+use Rattle.joining.proofs.NextCases.{below, noneLeft}
 use Rattle.strip.proofs.BytesLaws.{numbers-exactly}
 use Rattle.cases.proofs.Lists.{clear, turned-next, none-next}
 use Rattle.cases.specs.Table.{Row, offering, best, first, AllHold, none, and, T, later, repeated, turned, flat, eight, others, eightStrips, fourStrips, lists, rows}
@@ -130,12 +133,12 @@ others-hold =
     (and (other (pairs T t-fit) (too-many _ refl))
     (and later-first
     (and (offered later (A ∷ B ∷ A ∷ B ∷ A ∷ B ∷ []) (pairs later later-fit) (of-three (A ∷ B ∷ A ∷ B ∷ A ∷ B ∷ []) refl refl .1) refl)
-    (and repeated-twin
-    (and (pair (lower repeated-twin))
-    (and turned-turn
-    (and (pair (lower turned-turn))
-    (and flat-turn
-    (and (pair (lower flat-turn)) none))))))))))
+    (and (given-of repeated-twin)
+    (and (pair (lower (given-of repeated-twin)))
+    (and (given-of turned-turn)
+    (and (pair (lower (given-of turned-turn)))
+    (and (given-of flat-turn)
+    (and (pair (lower (given-of flat-turn))) none))))))))))
 
 -- ---- the whole lists
 
@@ -172,7 +175,7 @@ later-onward =
 
 -- ---- asked for the next
 
-enough : (s : List Step) → length (bytes s) ≡ 6 → Enough T T (bytes s) (replicate 16 0)
+enough : (s : List Step) → length (bytes s) ≡ 6 → Enough T T (bytes s) (replicate 16 7)
 enough s e = record {
   forStrip = omega (arith, e, three .0);
   forWork = subst (λ (k : ℕ). (k + 1) * (k + 1) ≤ length (replicate {A = ℕ} 16 0)) (sym (three .0)) (omega arith);
@@ -181,14 +184,14 @@ enough s e = record {
 abbrev handed : (s : List Step) → take (count T + count T) (bytes s) ≡ bytes s → Ways.Strip (count T) (count T) s → HandedIn T T (bytes s)
 handed s e i = record { steps = s; written = e; strip = i }
 
-below-8 : NextAnswer T T (bytes (A ∷ A ∷ A ∷ B ∷ B ∷ B ∷ [])) (replicate 16 0) (bytes (A ∷ A ∷ A ∷ B ∷ B ∷ B ∷ [])) (replicate 16 0) (Followed.Refused (at Below 0))
+below-8 : NextAnswer T T (bytes (A ∷ A ∷ A ∷ B ∷ B ∷ B ∷ [])) (replicate 16 7) (bytes (A ∷ A ∷ A ∷ B ∷ B ∷ B ∷ [])) (replicate 16 7) (Followed.Refused (at Below 0))
 unfolding stepsA stepsB valueFrom worthA worthB count px py
 below-8 =
     below (pairs T t-fit) (enough (A ∷ A ∷ A ∷ B ∷ B ∷ B ∷ []) refl) (handed (A ∷ A ∷ A ∷ B ∷ B ∷ B ∷ []) refl (of-three (A ∷ A ∷ A ∷ B ∷ B ∷ B ∷ []) refl refl .0))
     (of-three (A ∷ B ∷ A ∷ B ∷ A ∷ B ∷ []) refl refl .0) (ltZ-true (pos 0) (pos 8) refl)
     (record { stripSame = refl; workSame = refl })
 
-none-left : NextAnswer T T (bytes (A ∷ B ∷ A ∷ B ∷ A ∷ B ∷ [])) (replicate 16 0) (bytes (A ∷ B ∷ A ∷ B ∷ A ∷ B ∷ [])) (replicate 16 0) Followed.NoneLeft
+none-left : NextAnswer T T (bytes (A ∷ B ∷ A ∷ B ∷ A ∷ B ∷ [])) (replicate 16 7) (bytes (A ∷ B ∷ A ∷ B ∷ A ∷ B ∷ [])) (replicate 16 0) Followed.NoneLeft
 unfolding stepsA stepsB valueFrom worthA worthB count px py top maxℤ pointer alsoB trace clear
 none-left =
     let s : List Step = A ∷ B ∷ A ∷ B ∷ A ∷ B ∷ [] in

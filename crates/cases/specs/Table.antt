@@ -1,14 +1,15 @@
 -- 01, "Cases to be proved together": "One table with one theorem over it holds the rows marked *." The theorem is `proofs/Rows.antt`.
 use mathlib.Core.Path.{_≡_}
 use mathlib.Core.List.{List, [], _∷_, _++_}
+use Prim.Native.Nat.{ℕ}
 use lib.IntN.{ℤ, pos}
 use lib.ListN.{replicate}
 use Rattle.fault.specs.declared.Fault.the-variants.{Twin, Turn, Strip, Below}
 use Rattle.trace.specs.declared.Judgement.{Judgement}
 use Rattle.trace.specs.declared.Judgement.the-variants.{Unfit}
 use Rattle.trace.specs.Points.{count}
-use Rattle.trace.specs.Judged.{judged}
-use Rattle.trace.specs.Pair.{at}
+use Rattle.trace.specs.Faults.{Given}
+use Rattle.fault.specs.Gates.{at}
 use Rattle.ways.specs.Strip.{Step, A, B}
 use Rattle.ways.specs.Strip as Ways
 use Rattle.ways.specs.Best.{Best, FirstBest, Listed}
@@ -33,16 +34,22 @@ pub data Row : Type 0 where
   first : List ℤ → List ℤ → List Step → Row
   -- these are all the best ones, in 01's order
   list : List ℤ → List ℤ → List (List Step) → Row
-  -- the answer to a strip handed in for its next, which leaves the strip slice and, with 16 zeros lent, the work slice as they were
+  -- the answer to a strip handed in for its next, which leaves the strip slice as it was
   asking : List ℤ → List ℤ → List Step → Followed → Row
 
+-- 16 work bytes are lent with a 7 in each: a refusal leaves them, else they are zero
+abbrev pub workAfter : Followed → List ℕ
+workAfter (Followed.Refused r) = replicate 16 7
+workAfter Followed.NoneLeft = replicate 16 0
+workAfter (Followed.Next v) = replicate 16 0
+
 abbrev pub Holds : Row → Type 0
-Holds (judging c r) = judged c ≡ r
+Holds (judging c r) = Given c r
 Holds (offering a b s r) = StripJudged a b (bytes s) r
 Holds (best a b s) = Best (Ways.Strip (count a) (count b)) (W a b) s
 Holds (first a b s) = FirstBest (Ways.Strip (count a) (count b)) (W a b) s
 Holds (list a b l) = Listed (Ways.Strip (count a) (count b)) (W a b) l
-Holds (asking a b s r) = NextAnswer a b (bytes s) (replicate 16 0) (bytes s) (replicate 16 0) r
+Holds (asking a b s r) = NextAnswer a b (bytes s) (replicate 16 7) (bytes s) (workAfter r) r
 
 pub data AllHold : List Row → Type 0 where
   none : AllHold []

@@ -2,6 +2,7 @@
 -- is accepted, so what is enough of the one is enough of the other. The arrays then begin with the entries' fields, so the entries are
 -- what `scatter` puts at the slice's front; of a refused file it puts none. Assumes nothing.
 use mathlib.Core.Path.{_≡_, refl, sym, ap, _∙_, subst}
+use mathlib.Core.Logic.{inl, inr}
 use mathlib.Core.List.{List, [], _∷_, _++_, map}
 use Prim.Native.Nat.{ℕ, zero, suc, min, _/_, _≤_, _<_}
 use native.Mathlib.Omega.{arith}
@@ -14,7 +15,10 @@ use Rattle.stack.specs.Gathered.{Gathers}
 use Rattle.stack.proofs.Laying.{laid-only}
 use Rattle.register.specs.declared.ReadBack.{ReadBack}
 use Rattle.register.specs.declared.ReadBack.the-variants as read-is
-use Rattle.register.specs.Reading.{Lent, lent, EnoughFor, filled, ReadAnswer}
+use Rattle.fault.specs.declared.Refusal.{Refusal}
+use Rattle.fault.specs.Gates.{Stopped}
+use Rattle.register.specs.Reading.{Lent, lent, EnoughFor, filled, inFile, Holding, readGates, ReadAnswer}
+use Rattle.register.proofs.StoredLaws.{stored-many}
 use Rattle.register.specs.Reading as answer
 use Rattle.entries.specs.Scattered.{scattered}
 use Rattle.entries.specs.Reading.{lentEntries, layersRead}
@@ -82,6 +86,37 @@ module _ (x : Lent) (old : List Layer) where
 
 -- ---- the answer
 
+-- the gates of a call stop alike, since entries have room where the three columns have
+module _ (x : Lent) (old : List Layer) (a : Alike x old) (f : List ℕ) where
+  under : Holding (inFile f) (λ es c l. EnoughFor es c l x → ⊥) → Holding (inFile f) (λ es c l. EnoughFor es c l (Over x old) → ⊥)
+  under h = record {
+    layers = h .layers;
+    es = h .es;
+    c = h .c;
+    l = h .l;
+    stored = h .stored;
+    said = λ e. h .said (enough-under x old a (omega (arith, stored-many (h .stored), h .layers .twenty)) e);
+  }
+
+  over : Holding (inFile f) (λ es c l. EnoughFor es c l (Over x old) → ⊥) → Holding (inFile f) (λ es c l. EnoughFor es c l x → ⊥)
+  over h = record {
+    layers = h .layers;
+    es = h .es;
+    c = h .c;
+    l = h .l;
+    stored = h .stored;
+    said = λ e. h .said (enough-over x old a (omega (arith, stored-many (h .stored), h .layers .twenty)) e);
+  }
+
+  stopped-over : (r : Refusal) → Stopped (readGates f x) r → Stopped (readGates f (Over x old)) r
+  stopped-over r (inl b) = inl b
+  stopped-over r (inr (o, inl b)) = inr (o, inl b)
+  stopped-over r (inr (o, inr (p, inl b))) = inr (o, inr (p, inl b))
+  stopped-over r (inr (o, inr (p, inr (q, inl b)))) = inr (o, inr (p, inr (q, inl b)))
+  stopped-over r (inr (o, inr (p, inr (q, inr (s, inl b))))) = inr (o, inr (p, inr (q, inr (s, inl (b .0, under (b .1))))))
+  stopped-over r (inr (o, inr (p, inr (q, inr (s, inr (t, b)))))) =
+      inr (o, inr (p, inr (q, inr (s, inr (λ z h. t z (h .0, over (h .1)), b)))))
+
 -- the arrays that begin with what y has of the entries, and n layers
 abbrev pub begun : Lent → List ℤ → List ℕ → List ℕ → ℕ → Stack
 begun y p f m n = record { plane = y .planes ++ p; first = y .firsts ++ f; count = y .counts ++ m; layers = n }
@@ -131,12 +166,7 @@ module _ (old : List Layer) (p : List ℤ) (q m : List ℕ) where
 
   pub read-over : {f : List ℕ} {x y : Lent} {r : ReadBack} → Alike x old → ReadAnswer f x y r
       → ReadAnswer f (Over x old) (lentEntries (scattered (begun y p q m (layersRead r)) old) (y .coords) (y .strips)) r
-  read-over {x = x} a (answer.blocks j) = refused x refl (answer.blocks j)
-  read-over {x = x} a (answer.layers s w) = refused x refl (answer.layers s w)
-  read-over {x = x} a (answer.content s i w) = refused x refl (answer.content s i w)
-  read-over {x = x} a (answer.stack s i t j) = refused x refl (answer.stack s i t j)
-  read-over {x = x} a (answer.room s t k w) = refused x refl (answer.room s t k (λ e. w (enough-under x old a (k .layers .twenty) e)))
-  read-over {x = x} a (answer.strips s t k e j) = refused x refl (answer.strips s t k (enough-over x old a (k .layers .twenty) e) j)
+  read-over {f = f} {x = x} a (answer.refused {r = r} g) = refused x refl (answer.refused (stopped-over x old a f r g))
   read-over {f = f} {x = x} a (answer.whole {es = es} {c = c} {l = l} s t k e w) =
       let e′ : EnoughFor es c l (Over x old) = enough-over x old a (k .layers .twenty) e in
       subst (λ (y : Lent). ReadAnswer f (Over x old) y (read-is.Whole (length es) (length c / 2) (length l)))

@@ -6,6 +6,9 @@ use Prim.Native.Nat.{ℕ}
 use lib.IntN.{ℤ}
 use Rattle.strip.specs.declared.Valued.{Valued}
 use Rattle.strip.specs.Judging.{StripJudged}
+use Rattle.trace.specs.declared.Judgement.{Judgement}
+use Rattle.trace.specs.Faults.{Given}
+use Rattle.trace.proofs.Exact.{judgement-unique}
 use Rattle.strip.proofs.Exact.{strip-judged-unique}
 use Rattle.joining.specs.declared.Followed.{Followed}
 use Rattle.joining.specs.declared.Run.{Run}
@@ -14,19 +17,18 @@ use Rattle.joining.specs.Listing.{ListAnswer}
 use Rattle.joining.proofs.Exact.{Same, best-unique, followed-unique, list-unique}
 use Rattle.stack.specs.declared.Layer.{Layer}
 use Rattle.stack.specs.Faults.{StackJudged}
-use Rattle.stack.specs.Strips.{StripsAnswered}
-use Rattle.stack.proofs.Exact.{stack-judged-unique, strips-answered-unique}
+use Rattle.stack.proofs.Exact.{stack-judged-unique}
 use Rattle.bands.specs.Bands.{BandsAnswer}
 use Rattle.bands.proofs.Exact.{bands-unique}
 use Rattle.mesh.specs.Meshing.{Measured, Triangled}
 use Rattle.mesh.proofs.Answers.{measured-once, triangled-once}
 use Rattle.exports.specs.declared.Answer.{Answer}
+use Rattle.exports.specs.declared.TraceAnswer.{TraceAnswer}
 use Rattle.exports.specs.declared.RunAnswer.{RunAnswer}
 use Rattle.exports.specs.declared.stacks.StackAnswer.{StackAnswer}
-use Rattle.exports.specs.declared.stacks.StripsAnswer.{StripsAnswer}
 use Rattle.exports.specs.declared.stacks.StepsAnswer.{StepsAnswer}
 use Rattle.exports.specs.declared.stacks.MeshAnswer.{MeshAnswer}
-use Rattle.exports.specs.Shown.{valued, followed, listed}
+use Rattle.exports.specs.Shown.{valued, followed, listed, judgedAs}
 use Rattle.register.specs.Writing.{WriteAnswer}
 use Rattle.register.proofs.WriteExact.{write-once}
 use Rattle.register.specs.Reading.{ReadAnswer}
@@ -38,12 +40,16 @@ use Rattle.listing.specs.Listing.{ListingAnswer}
 use Rattle.listing.proofs.Unique.{answer-unique}
 use Rattle.exports.specs.declared.files.BytesAnswer.{BytesAnswer}
 use Rattle.exports.specs.Files.{writtenAs, readAs, listedAs}
-use Rattle.exports.specs.Stacks.{stackAs, stripsAs, bandedAs, volumedAs, meshedAs}
+use Rattle.exports.specs.Stacks.{stackAs, bandedAs, volumedAs, meshedAs}
 
 -- what is shown of one answer
 same-shown : {X Y : Type 0} (show : X → Y) {x x′ : X} {r r′ : Y} {s s′ w w′ : List ℕ} → Same x x′ s s′ w w′ → r ≡ show x → r′ ≡ show x′
     → Same r r′ s s′ w w′
 same-shown show same e f = record { answer = e ∙ ap show (same .answer) ∙ sym f; strips = same .strips; works = same .works }
+
+pub register-judge-unique : {c : List ℤ} {r r′ : TraceAnswer} → ((x : Judgement) × (Given c x × (r ≡ judgedAs x)))
+    → ((x : Judgement) × (Given c x × (r′ ≡ judgedAs x))) → r ≡ r′
+register-judge-unique (x, (p, e)) (y, (q, f)) = e ∙ ap judgedAs (judgement-unique p q) ∙ sym f
 
 pub register-judge-strip-unique : {a b : List ℤ} {l : List ℕ} {r r′ : Answer}
     → ((x : Valued) × (StripJudged a b l x × (r ≡ valued x))) → ((x : Valued) × (StripJudged a b l x × (r′ ≡ valued x))) → r ≡ r′
@@ -72,10 +78,6 @@ module _ {es : List Layer} where
   pub register-judge-stack-unique : {c : List ℤ} {r r′ : StackAnswer} → Shows (StackJudged es c) stackAs r → Shows (StackJudged es c) stackAs r′
       → r ≡ r′
   register-judge-stack-unique (x, (p, e)) (y, (q, f)) = e ∙ ap stackAs (stack-judged-unique p q) ∙ sym f
-
-  pub register-judge-strips-unique : {l : List ℕ} {r r′ : StripsAnswer} → Shows (StripsAnswered es l) stripsAs r
-      → Shows (StripsAnswered es l) stripsAs r′ → r ≡ r′
-  register-judge-strips-unique (x, (p, e)) (y, (q, f)) = e ∙ ap stripsAs (strips-answered-unique p q) ∙ sym f
 
 module _ {es : List Layer} {c : List ℤ} {l : List ℕ} where
   pub register-volume-unique : {r r′ : Answer} → Shows (Measured es c l) volumedAs r → Shows (Measured es c l) volumedAs r′ → r ≡ r′

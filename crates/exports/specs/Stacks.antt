@@ -3,8 +3,6 @@ use lib.IntN.{pos}
 use Rattle.fault.specs.Number.{numberOf}
 use Rattle.stack.specs.declared.StackJudgement.{StackJudgement}
 use Rattle.stack.specs.declared.StackJudgement.the-variants as stack-is
-use Rattle.stack.specs.declared.StripsJudgement.{StripsJudgement}
-use Rattle.stack.specs.declared.StripsJudgement.the-variants as strips-are
 use Rattle.bands.specs.declared.Banded.{Banded}
 use Rattle.bands.specs.declared.Banded.the-variants as bands-are
 use Rattle.mesh.specs.declared.Volumed.{Volumed}
@@ -13,7 +11,6 @@ use Rattle.mesh.specs.declared.Meshed.{Meshed}
 use Rattle.mesh.specs.declared.Meshed.the-variants as mesh-is
 use Rattle.exports.specs.declared.Answer.{Answer}
 use Rattle.exports.specs.declared.stacks.StackAnswer.{StackAnswer}
-use Rattle.exports.specs.declared.stacks.StripsAnswer.{StripsAnswer}
 use Rattle.exports.specs.declared.stacks.StepsAnswer.{StepsAnswer}
 use Rattle.exports.specs.declared.stacks.MeshAnswer.{MeshAnswer}
 use Rattle.exports.specs.Shown.{foundAs, refusedAs}
@@ -21,10 +18,6 @@ use Rattle.exports.specs.Shown.{foundAs, refusedAs}
 abbrev pub stackAs : StackJudgement → StackAnswer
 stackAs (stack-is.Fit points n) = record { number = 0; place = 0; points = points; steps = n }
 stackAs (stack-is.Refused r) = record { number = numberOf (r .fault); place = r .place; points = 0; steps = 0 }
-
-abbrev pub stripsAs : StripsJudgement → StripsAnswer
-stripsAs strips-are.Whole = record { number = 0; place = 0 }
-stripsAs (strips-are.Refused r) = record { number = numberOf (r .fault); place = r .place }
 
 abbrev pub bandedAs : Banded → StepsAnswer
 bandedAs (bands-are.Steps n) = record { number = 0; place = 0; steps = n }

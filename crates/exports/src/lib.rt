@@ -6,7 +6,7 @@ pub mod stacks;
 ghost use mathlib.Core.Path.{_≡_};
 ghost use Rattle.fault.specs.declared.Refusal.{Refusal};
 ghost use Rattle.trace.specs.declared.Judgement.{Judgement};
-ghost use Rattle.trace.specs.Judged.{judged};
+ghost use Rattle.trace.specs.Faults.{Given};
 ghost use Rattle.strip.specs.declared.Valued.{Valued};
 ghost use Rattle.strip.specs.Judging.{StripJudged};
 ghost use Rattle.joining.specs.declared.Followed.{Followed};
@@ -85,7 +85,7 @@ pub(crate) fn found(value: i64) -> Answer
 // The judgement of one trace.
 #[no_mangle]
 pub extern "C" fn register_judge(coords: &[i32]) -> TraceAnswer
-    ensures { λ r. ⌜ r ≡ judgedAs (judged (now (coords .entry))) ⌝ }
+    ensures { λ r. ⌜ ((x : Judgement) × (Given (now (coords .entry)) x × (r ≡ judgedAs x))) ⌝ }
 {
     match trace::judge(coords) {
         Judgement::Fit { area, count } => TraceAnswer {

@@ -3,16 +3,14 @@ ghost use mathlib.Core.Path.{_≡_};
 ghost use mathlib.Core.List.{List};
 ghost use Rattle.stack.specs.declared.Layer.{Layer};
 ghost use Rattle.stack.specs.declared.StackJudgement.{StackJudgement};
-ghost use Rattle.stack.specs.declared.StripsJudgement.{StripsJudgement};
 ghost use Rattle.stack.specs.Faults.{StackJudged};
-ghost use Rattle.stack.specs.Strips.{StripsAnswered};
 ghost use Rattle.stack.specs.Gathered.{Gathers};
 ghost use Rattle.bands.specs.declared.Banded.{Banded};
 ghost use Rattle.bands.specs.Bands.{BandsAnswer};
 ghost use Rattle.mesh.specs.declared.Volumed.{Volumed};
 ghost use Rattle.mesh.specs.declared.Meshed.{Meshed};
 ghost use Rattle.mesh.specs.Meshing.{Measured, Triangled};
-ghost use Rattle.exports.specs.Stacks.{stackAs, stripsAs, bandedAs, volumedAs, meshedAs};
+ghost use Rattle.exports.specs.Stacks.{stackAs, bandedAs, volumedAs, meshedAs};
 use crate::Answer;
 use crate::found;
 use crate::refused;
@@ -24,7 +22,6 @@ use mesh::Volumed;
 use stack::Layer;
 use stack::Stack;
 use stack::StackJudgement;
-use stack::StripsJudgement;
 
 // A stack's numbers of points and of steps of all bands, or a refusal.
 #[repr(C)]
@@ -33,13 +30,6 @@ pub struct StackAnswer {
     pub place: usize,
     pub points: usize,
     pub steps: usize,
-}
-
-// Strips that are right, or a refusal.
-#[repr(C)]
-pub struct StripsAnswer {
-    pub number: u8,
-    pub place: usize,
 }
 
 // The number of steps that were written, or a refusal.
@@ -85,33 +75,6 @@ fn stack_judged(stack: Stack, coords: &[i32]) -> StackAnswer
                 place: refusal.place,
                 points: 0,
                 steps: 0,
-            }
-        }
-    }
-}
-
-// The judgement of a stack's strips.
-#[no_mangle]
-pub extern "C" fn register_judge_strips(layers: &[Layer], strips: &[u8]) -> StripsAnswer
-    ensures { λ r. ⌜ ((x : StripsJudgement) × (StripsAnswered (now (layers .entry)) (now (strips .entry)) x × (r ≡ stripsAs x))) ⌝ }
-{
-    strips_judged(gather(layers), strips)
-}
-
-fn strips_judged(stack: Stack, strips: &[u8]) -> StripsAnswer
-    ensures { λ r. ⌜ ((x : StripsJudgement) × (((es : List Layer) → Gathers stack es
-        → StripsAnswered es (now (strips .entry)) x) × (r ≡ stripsAs x))) ⌝ }
-{
-    match stack::judge_strips(stack, strips) {
-        StripsJudgement::Whole => StripsAnswer {
-            number: 0,
-            place: 0,
-        },
-        StripsJudgement::Refused(refusal) => {
-            let fault = refusal.fault;
-            StripsAnswer {
-                number: number(fault),
-                place: refusal.place,
             }
         }
     }

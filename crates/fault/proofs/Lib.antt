@@ -1,2 +1,3 @@
--- What holds of the refusals' numbers.
+-- What holds of the refusals' numbers, and of their order.
+pub mod GateLaws
 pub mod Numbers

@@ -10,7 +10,8 @@ use lib.IntN.{ℤ}
 use lib.ListN.{length, drop, replicate}
 use Rattle.whole.proofs.TestLaws.{true≢false, or-false}
 use Rattle.trace.specs.Points.{count}
-use Rattle.trace.specs.Pair.{at, PairCounts}
+use Rattle.fault.specs.Gates.{at}
+use Rattle.strip.specs.Pair.{PairCounts}
 use Rattle.ways.specs.Strip.{Step}
 use Rattle.ways.specs.Keppel.{trace, traced}
 use Rattle.ways.proofs.Greatest.{attained}
@@ -23,7 +24,8 @@ use Rattle.fault.specs.declared.Fault.the-variants.{Room}
 use Rattle.joining.specs.Cells.{room}
 use Rattle.joining.specs.Table.{Tabled}
 use Rattle.joining.specs.Walking.{saysA}
-use Rattle.joining.specs.Answers.{Enough, workBytes, Untouched, BestAnswer, best}
+use Rattle.joining.specs.Answers.{Enough, workBytes, Untouched, BestAnswer}
+use Rattle.joining.proofs.BestCases.{best}
 use Rattle.joining.proofs.CellLaws.{room-all}
 use Rattle.joining.proofs.MarkLaws.{filled-trace}
 

@@ -10,9 +10,9 @@ use native.Mathlib.Omega.{arith}
 use lib.IntN.{ℤ}
 use lib.ListN.{length, take, drop, length-map, length-append}
 use lib.Seq.{take-at}
-use Rattle.whole.proofs.Order.{clash}
-use Rattle.trace.proofs.PairLaws.{refused-not-pair}
-use Rattle.trace.specs.Pair.{Pair}
+use Rattle.fault.proofs.GateLaws.{stopped-not-passed}
+use Rattle.strip.proofs.PairLaws.{open-pair}
+use Rattle.strip.specs.Pair.{Pair}
 use Rattle.ways.specs.Strip.{Step}
 use Rattle.ways.specs.Best.{Onward, end, Listed}
 use Rattle.ways.proofs.Greatest.{strip-length}
@@ -25,8 +25,10 @@ use Rattle.strip.specs.declared.Valued.{Valued}
 use Rattle.strip.specs.declared.Valued.the-variants.{Value}
 use Rattle.joining.specs.declared.Followed.{Followed}
 use Rattle.joining.specs.declared.Followed.the-variants.{Next, NoneLeft}
-use Rattle.joining.specs.Answers.{Between, BestOf, FirstOf, NextOf, NoneLeftOf, HandedIn, stripBytes, Enough, Given, BestAnswer, best, NextAnswer, noStrip, below, next, noneLeft}
+use Rattle.joining.specs.Answers.{Between, BestOf, FirstOf, NextOf, NoneLeftOf, HandedIn, HandedBest, stripBytes, Enough, Given, bestGates, nextGates, BestAnswer, best, NextAnswer, next, noneLeft}
 use Rattle.joining.specs.Answers as Answers
+use Rattle.joining.proofs.BestCases.{best-passed}
+use Rattle.joining.proofs.NextCases.{next-passed}
 use Rattle.joining.specs.Calls.{shown, Going, begun, went, Ended, ended}
 
 -- ---- the calls are a chain
@@ -62,8 +64,8 @@ module _ (a b : List ℤ) where
   handed-back {s} strip h e f = bytes-injective (h .steps) s (sym (h .written) ∙ e ∙ f)
 
   chained : {l : List (List ℕ)} {last : List ℕ} → Going a b l last → Chained a b l last
-  chained (begun (best p e s f g c)) = record {
-    pair = p;
+  chained (begun (best p s f g c)) = record {
+    pair = open-pair (p .0);
     start = s;
     first = f;
     strips = s ∷ [];
@@ -73,11 +75,11 @@ module _ (a b : List ℤ) where
     all = ap (λ (x : List ℕ). x ∷ []) (shown-given (f .best .is) g);
     final-shown = shown-given (f .best .is) g;
   }
-  chained (went {strip = strip} going back (next p e h x t f g c)) =
+  chained (went {strip = strip} going back (next p h t f g c)) =
       let before = chained going in
-      let n : NextOf a b (before .final) t = subst (λ (s : List Step). NextOf a b s t) (handed-back strip h back (before .final-shown)) f in
+      let n : NextOf a b (before .final) t = subst (λ (s : List Step). NextOf a b s t) (handed-back strip (h .handed) back (before .final-shown)) f in
       record {
-        pair = p;
+        pair = open-pair (p .0);
         start = before .start;
         first = before .first;
         strips = before .strips ++ t ∷ [];
@@ -99,9 +101,9 @@ module _ (a b : List ℤ) where
 
   -- Calls that ended gave the whole list, from the first best strip on until none is left: all, only, in order, once.
   pub calls-list : {l : List (List ℕ)} → Ended a b l → Whole a b l
-  calls-list (ended {strip = strip} going back (noneLeft p e h x f kept cleared)) =
+  calls-list (ended {strip = strip} going back (noneLeft p h f kept cleared)) =
       let c = chained going in
-      let none = subst (NoneLeftOf a b) (handed-back strip h back (c .final-shown)) f in
+      let none = subst (NoneLeftOf a b) (handed-back strip (h .handed) back (c .final-shown)) f in
       let listed = onward-listed c [] (end none) in
       record {
         strips = c .strips ++ [];
@@ -125,20 +127,19 @@ module _ (a b : List ℤ) where
   -- They begin: two accepted traces with room have a first best strip.
   pub calls-begin : {strip work strip′ work′ : List ℕ} {r : Valued} → Pair a b → Enough a b strip work
       → BestAnswer a b strip work strip′ work′ r → (v : ℤ) × (r ≡ Value v)
-  calls-begin q room (Answers.BestAnswer.pair p u) = absurd (refused-not-pair p q)
-  calls-begin q room (Answers.BestAnswer.room p n u) = absurd (n room)
-  calls-begin q room (best p e s f g c) = (W a b s, refl)
+  calls-begin {strip = strip} {work = work} q room (Answers.BestAnswer.refused {r = r} x u) =
+      absurd (stopped-not-passed (bestGates a b strip work) r x (best-passed q room))
+  calls-begin q room (best p s f g c) = (W a b s, refl)
 
   -- None of them is refused while there is room.
   pub calls-go-on : {l : List (List ℕ)} {last strip work strip′ work′ : List ℕ} {r : Followed} → Going a b l last → shown a b strip ≡ last
       → Enough a b strip work → NextAnswer a b strip work strip′ work′ r → ((v : ℤ) × (r ≡ Next v)) ⊎ (r ≡ NoneLeft)
-  calls-go-on {strip = strip} going back room (Answers.NextAnswer.pair p u) = absurd (refused-not-pair p (chained going .pair))
-  calls-go-on {strip = strip} going back room (Answers.NextAnswer.room p n u) = absurd (n room)
-  calls-go-on {strip = strip} going back room (noStrip p e z u) =
+  calls-go-on {strip = strip} {work = work} going back room (Answers.NextAnswer.refused {r = r} x u) =
       let c = chained going in
-      absurd (z (record { steps = c .final; written = back ∙ c .final-shown; strip = c .best .is }))
-  calls-go-on {strip = strip} going back room (below p e s i l u) =
-      let c = chained going in
-      absurd (clash l (subst (BestOf a b) (sym (handed-back strip s back (c .final-shown))) (c .best) .greatest _ i))
-  calls-go-on {strip = strip} going back room (next p e s x t f g c) = inl (W a b t, refl)
-  calls-go-on {strip = strip} going back room (noneLeft p e s x f k c) = inr refl
+      let h : HandedBest a b strip = record {
+        handed = record { steps = c .final; written = back ∙ c .final-shown; strip = c .best .is };
+        best = c .best;
+      } in
+      absurd (stopped-not-passed (nextGates a b strip work) r x (next-passed (c .pair) room h))
+  calls-go-on going back room (next p s t f g c) = inl (W a b t, refl)
+  calls-go-on going back room (noneLeft p s f k c) = inr refl

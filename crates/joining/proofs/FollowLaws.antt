@@ -16,8 +16,9 @@ use Rattle.whole.proofs.Order.{ltZ-true, ltZ-false, ≤ℤ-antisym}
 use Rattle.fault.specs.declared.Fault.the-variants.{Below}
 use Rattle.fault.specs.declared.Refusal.{Refusal}
 use Rattle.trace.specs.Points.{count}
-use Rattle.trace.specs.Pair.{at, PairCounts}
-use Rattle.trace.proofs.PairLaws.{refused-not-pair}
+use Rattle.fault.specs.Gates.{at}
+use Rattle.strip.specs.Pair.{PairCounts}
+use Rattle.strip.proofs.PairLaws.{refused-not-pair}
 use Rattle.ways.specs.Strip.{Step, B, stepsA, stepsB, Strip}
 use Rattle.ways.specs.Best.{Best}
 use Rattle.ways.specs.Keppel.{top, trace, traced}
@@ -25,7 +26,8 @@ use Rattle.ways.specs.Value.{value}
 use Rattle.ways.proofs.Greatest.{greatest, attained, best-value, value-best, strip-length}
 use Rattle.strip.specs.Worth.{worths, W}
 use Rattle.strip.specs.Bytes.{bytes, IsStrip}
-use Rattle.strip.specs.Judging.{StripJudged, pair, other}
+use Rattle.strip.specs.Judging.{StripJudged}
+use Rattle.strip.proofs.JudgingLaws.{Refusing, traces, no-strip, refusing}
 use Rattle.strip.specs.Judging as Judging
 use Rattle.strip.specs.declared.Valued.{Valued}
 use Rattle.strip.specs.declared.Valued.the-variants as Valued
@@ -35,7 +37,7 @@ use Rattle.joining.specs.Cells.{room}
 use Rattle.joining.specs.Table.{Tabled}
 use Rattle.joining.specs.Walking.{saysA, Turned, turned, left}
 use Rattle.joining.specs.Answers.{Enough, HandedIn, workBytes, NextAnswer}
-use Rattle.joining.specs.Answers as Answers
+use Rattle.joining.proofs.NextCases.{below, next, noneLeft}
 use Rattle.joining.proofs.CellLaws.{room-all}
 use Rattle.joining.proofs.NextLaws.{turned-next, left-none}
 
@@ -47,13 +49,12 @@ refused-is {a} {b} {strip} {work} {strip′} {work′} e x = subst (NextAnswer a
 
 pub not-handed : {a b : List ℤ} {m n : ℕ} (l : List ℕ) {r : Valued} {q : Refusal} → PairCounts a b m n
     → StripJudged a b (take (m + n) l) r → r ≡ Valued.Refused q → HandedIn a b l → ⊥
-not-handed l p (pair x) e s = refused-not-pair x (p .pair)
-not-handed {a} {b} {m} {n} l p (other x no-strip) e s =
-    no-strip (subst (λ (k : ℕ). IsStrip (count a) (count b) (take k l)) (sym (ap₂ _+_ (p .countA) (p .countB))) s)
-not-handed l p (Judging.strip x s′) e s = clash e
+not-handed {a} {b} {m} {n} l p x e s = go (refusing (subst (StripJudged a b (take (m + n) l)) e x))
   where
-    clash : {v : ℤ} {q : Refusal} → Valued.Value v ≡ Valued.Refused q → ⊥
-    clash e = let o : _≡_ {A = ℕ} 0 1 = cc in omega arith
+    go : {q : Refusal} → Refusing a b (take (m + n) l) q → ⊥
+    go (traces y) = refused-not-pair y (p .pair)
+    go (no-strip _ _ not-one) =
+        not-one (subst (λ (k : ℕ). IsStrip (count a) (count b) (take k l)) (sym (ap₂ _+_ (p .countA) (p .countB))) s)
 
 -- it is a strip, and v its value
 pub record Handed (a b : List ℤ) (m n : ℕ) (l : List ℕ) (v : ℤ) : Type 0 where
@@ -62,15 +63,11 @@ pub record Handed (a b : List ℤ) (m n : ℕ) (l : List ℕ) (v : ℤ) : Type 0
 
 pub handed : {a b : List ℤ} {m n : ℕ} {l : List ℕ} {r : Valued} {v : ℤ} → PairCounts a b m n → StripJudged a b (take (m + n) l) r
     → r ≡ Valued.Value v → Handed a b m n l v
-handed {v = v} p (pair x) e = absurd (clash e)
+handed {v = v} p (Judging.refused x) e = absurd (clash e)
   where
     clash : {q : Refusal} → Valued.Refused q ≡ Valued.Value v → ⊥
     clash e = let o : _≡_ {A = ℕ} 0 1 = cc in omega arith
-handed {v = v} p (other x no-strip) e = absurd (clash e)
-  where
-    clash : {q : Refusal} → Valued.Refused q ≡ Valued.Value v → ⊥
-    clash e = let o : _≡_ {A = ℕ} 0 1 = cc in omega arith
-handed {a} {b} {m} {n} {l} {v = v} p (Judging.strip x s) e = record {
+handed {a} {b} {m} {n} {l} {v = v} p (Judging.accepted x s) e = record {
   strip = record {
     steps = s .steps;
     written = s .written;
@@ -103,7 +100,7 @@ pub below-is : {a b : List ℤ} {m n : ℕ} {strip work l l′ : List ℕ} {v g 
     → NextAnswer a b strip work strip work (Refused (at Below 0))
 unfolding as-handed
 below-is {a} {b} {strip = strip} {v = v} {g = g} p e h f less =
-    Answers.below (p .pair) e (as-handed strip p (h .strip)) (attained (worths a b) (count a) (count b) .0)
+    below (p .pair) e (as-handed strip p (h .strip)) (attained (worths a b) (count a) (count b) .0)
     (subst₂ (λ (x y : ℤ). x <ℤ y) (h .isValue) (attains p f) (ltZ-true v g less))
     (record { stripSame = refl; workSame = refl })
 
@@ -151,7 +148,7 @@ next-done {a} {b} {m} {n} {strip} {work} {strip′} {work′} {l} {l′} {v} {g}
             let after = turned-next (q .filled) isBest x z e y early in
             subst (λ (u : ℤ). NextAnswer a b strip work strip′ work′ (Next u))
             (best-value (worths a b) (after .best) ∙ sym (q .filled .value))
-            (Answers.next (p .pair) room-enough s isBest t after
+            (next (p .pair) room-enough s isBest t after
             (record { front = front ∙ ap (λ (k : ℕ). bytes t ++ drop k strip) (strip-length (q .handed .strip .strip)) })
             (record { zeros = q .zeros ∙ room-all (workBytes a b) work work refl }))
 
@@ -174,7 +171,7 @@ none-done {a} {b} {m} {n} {strip} {work} {strip′} {work′} {l} {l′} {v} {g}
 
         by : Turned l′ (count b) (q .handed .strip .steps) strip strip′ false → NextAnswer a b strip work strip′ work′ NoneLeft
         by (left none same) =
-            Answers.noneLeft (p .pair) room-enough s isBest (left-none (q .filled) isBest none) same
+            noneLeft (p .pair) room-enough s isBest (left-none (q .filled) isBest none) same
             (record { zeros = q .zeros ∙ room-all (workBytes a b) work work refl })
 
 -- ---- in the machine's words

@@ -6,6 +6,9 @@ pub mod RowLaws
 pub mod TableLaws
 pub mod BackLaws
 pub mod MarkLaws
+pub mod BestCases
+pub mod NextCases
+pub mod ListCases
 pub mod BestLaws
 pub mod TurnLaws
 pub mod NextLaws

@@ -9,7 +9,7 @@ use lib.IntN.{ℤ}
 use lib.ListN.{length, drop, replicate}
 use Rattle.fault.specs.declared.Refusal.{Refusal}
 use Rattle.trace.specs.Points.{count}
-use Rattle.trace.specs.Pair.{PairCounts}
+use Rattle.strip.specs.Pair.{PairCounts}
 use Rattle.ways.specs.Strip.{Step}
 use Rattle.ways.specs.Keppel.{traced}
 use Rattle.ways.proofs.Greatest.{attained}
@@ -21,7 +21,8 @@ use Rattle.joining.specs.declared.lines.Counted.{Counted}
 use Rattle.joining.specs.Cells.{room}
 use Rattle.joining.specs.Table.{Tabled}
 use Rattle.joining.specs.Answers.{workBytes}
-use Rattle.joining.specs.Listing.{Beginning, EnoughLines, ListAnswer, listed}
+use Rattle.joining.specs.Listing.{Beginning, EnoughLines, ListAnswer}
+use Rattle.joining.proofs.ListCases.{listed}
 use Rattle.joining.specs.Listing as Listing
 use Rattle.joining.specs.Lines.{BeginningOf, all, some, WroteLines}
 use Rattle.joining.proofs.CellLaws.{room-all}

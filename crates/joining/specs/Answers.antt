@@ -1,14 +1,14 @@
 -- 01, demands 2 and 3, "What comes back" and "Room for a pair": what `best` and `next` answer, and every lent byte.
 use mathlib.Core.Path.{_≡_}
-use mathlib.Core.List.{List, _++_}
+use mathlib.Core.List.{List, [], _∷_, _++_}
 use Prim.Native.Nat.{ℕ, _+_, _*_, _≤_}
 use lib.ListN.{length, take, drop, replicate}
 use lib.IntN.{ℤ}
-use lib.Signed.{_<ℤ_}
 use Rattle.fault.specs.declared.Refusal.{Refusal}
 use Rattle.fault.specs.declared.Fault.the-variants.{Room, Strip, Below}
 use Rattle.trace.specs.Points.{count}
-use Rattle.trace.specs.Pair.{at, Pair, PairRefused}
+use Rattle.fault.specs.Gates.{Gate, unless, Stopped, Passed}
+use Rattle.strip.specs.Pair.{PairRefused}
 use Rattle.ways.specs.Strip.{Step}
 use Rattle.ways.specs.Strip as Ways
 use Rattle.ways.specs.Best.{Best, FirstBest, NextBest}
@@ -64,25 +64,31 @@ pub record Untouched (strip work strip′ work′ : List ℕ) : Type 0 where
 abbrev pub HandedIn : List ℤ → List ℤ → List ℕ → Type 0
 HandedIn a b strip = IsStrip (count a) (count b) (take (stripBytes a b) strip)
 
--- `best`: a refusal of the traces, ROOM at 0, or the first best strip with its value
+-- and one of greatest value
+pub record HandedBest (a b : List ℤ) (strip : List ℕ) : Type 0 where
+  pub handed : HandedIn a b strip
+  pub best : BestOf a b (handed .steps)
+
+-- `best`: the traces, then ROOM; else the first best strip with its value
+abbrev pub bestGates : List ℤ → List ℤ → List ℕ → List ℕ → List Gate
+bestGates a b strip work = PairRefused a b ∷ unless Room (Enough a b strip work) ∷ []
+
 pub data BestAnswer (a b : List ℤ) (strip work strip′ work′ : List ℕ) : Valued → Type 0 where
-  pair : {r : Refusal} → PairRefused a b r → Untouched strip work strip′ work′ → BestAnswer a b strip work strip′ work′ (Valued.Refused r)
-  room : Pair a b → (Enough a b strip work → ⊥) → Untouched strip work strip′ work′
-      → BestAnswer a b strip work strip′ work′ (Valued.Refused (at Room 0))
-  best : Pair a b → Enough a b strip work → (s : List Step) → FirstOf a b s → Given a b s strip strip′ → Cleared a b work work′
+  refused : {r : Refusal} → Stopped (bestGates a b strip work) r → Untouched strip work strip′ work′
+      → BestAnswer a b strip work strip′ work′ (Valued.Refused r)
+  best : Passed (bestGates a b strip work) → (s : List Step) → FirstOf a b s → Given a b s strip strip′ → Cleared a b work work′
       → BestAnswer a b strip work strip′ work′ (Value (W a b s))
 
--- `next`: a refusal of the traces, ROOM, STRIP or BELOW at 0; the strip that comes next after the one handed in, in its place, with
--- the greatest value; or none left. "The strip handed in for a next one stands at the front of its slice".
+-- `next`: the traces, then ROOM, STRIP, BELOW; else the strip that comes next after the one handed in, in its place, with the greatest
+-- value; or none left. "The strip handed in for a next one stands at the front of its slice".
+abbrev pub nextGates : List ℤ → List ℤ → List ℕ → List ℕ → List Gate
+nextGates a b strip work =
+    PairRefused a b ∷ unless Room (Enough a b strip work) ∷ unless Strip (HandedIn a b strip) ∷ unless Below (HandedBest a b strip) ∷ []
+
 pub data NextAnswer (a b : List ℤ) (strip work strip′ work′ : List ℕ) : Followed → Type 0 where
-  pair : {r : Refusal} → PairRefused a b r → Untouched strip work strip′ work′ → NextAnswer a b strip work strip′ work′ (Refused r)
-  room : Pair a b → (Enough a b strip work → ⊥) → Untouched strip work strip′ work′
-      → NextAnswer a b strip work strip′ work′ (Refused (at Room 0))
-  noStrip : Pair a b → Enough a b strip work → (HandedIn a b strip → ⊥) → Untouched strip work strip′ work′
-      → NextAnswer a b strip work strip′ work′ (Refused (at Strip 0))
-  below : Pair a b → Enough a b strip work → (s : HandedIn a b strip) → {t : List Step} → Between a b t → W a b (s .steps) <ℤ W a b t
-      → Untouched strip work strip′ work′ → NextAnswer a b strip work strip′ work′ (Refused (at Below 0))
-  next : Pair a b → Enough a b strip work → (s : HandedIn a b strip) → BestOf a b (s .steps) → (t : List Step) → NextOf a b (s .steps) t
+  refused : {r : Refusal} → Stopped (nextGates a b strip work) r → Untouched strip work strip′ work′
+      → NextAnswer a b strip work strip′ work′ (Refused r)
+  next : Passed (nextGates a b strip work) → (s : HandedBest a b strip) → (t : List Step) → NextOf a b (s .handed .steps) t
       → Given a b t strip strip′ → Cleared a b work work′ → NextAnswer a b strip work strip′ work′ (Next (W a b t))
-  noneLeft : Pair a b → Enough a b strip work → (s : HandedIn a b strip) → BestOf a b (s .steps) → NoneLeftOf a b (s .steps)
-      → strip′ ≡ strip → Cleared a b work work′ → NextAnswer a b strip work strip′ work′ NoneLeft
+  noneLeft : Passed (nextGates a b strip work) → (s : HandedBest a b strip) → NoneLeftOf a b (s .handed .steps) → strip′ ≡ strip
+      → Cleared a b work work′ → NextAnswer a b strip work strip′ work′ NoneLeft

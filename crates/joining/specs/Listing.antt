@@ -7,7 +7,8 @@ use lib.ListN.{length, drop}
 use lib.IntN.{ℤ}
 use Rattle.fault.specs.declared.Refusal.{Refusal}
 use Rattle.fault.specs.declared.Fault.the-variants.{Room}
-use Rattle.trace.specs.Pair.{at, Pair, PairRefused}
+use Rattle.fault.specs.Gates.{Gate, unless, Stopped, Passed}
+use Rattle.strip.specs.Pair.{PairRefused}
 use Rattle.ways.specs.Strip.{Step}
 use Rattle.ways.specs.Best.{Listed}
 use Rattle.strip.specs.Worth.{W}
@@ -32,10 +33,13 @@ pub record EnoughLines (a b : List ℤ) (limit : ℕ) (lines work : List ℕ) : 
   pub forLines : limit * stripBytes a b ≤ length lines
   pub forWork : workBytes a b ≤ length work
 
+-- the traces, then ROOM
+abbrev pub listGates : List ℤ → List ℤ → ℕ → List ℕ → List ℕ → List Gate
+listGates a b limit lines work = PairRefused a b ∷ unless Room (EnoughLines a b limit lines work) ∷ []
+
 pub data ListAnswer (a b : List ℤ) (limit : ℕ) (lines work lines′ work′ : List ℕ) : Run → Type 0 where
-  pair : {r : Refusal} → PairRefused a b r → Untouched lines work lines′ work′ → ListAnswer a b limit lines work lines′ work′ (Refused r)
-  room : Pair a b → (EnoughLines a b limit lines work → ⊥) → Untouched lines work lines′ work′
-      → ListAnswer a b limit lines work lines′ work′ (Refused (at Room 0))
-  listed : {more : Bool} → Pair a b → EnoughLines a b limit lines work → (l : List (List Step)) → Beginning a b limit l more
+  refused : {r : Refusal} → Stopped (listGates a b limit lines work) r → Untouched lines work lines′ work′
+      → ListAnswer a b limit lines work lines′ work′ (Refused r)
+  listed : {more : Bool} → Passed (listGates a b limit lines work) → (l : List (List Step)) → Beginning a b limit l more
       → lines′ ≡ lined l ++ drop (length l * stripBytes a b) lines → Cleared a b work work′
       → (s : List Step) → BestOf a b s → ListAnswer a b limit lines work lines′ work′ (Lines (W a b s) (length l) more)

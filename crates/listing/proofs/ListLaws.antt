@@ -14,8 +14,9 @@ use mir.Syntax.{w64}
 use mir.Val.{SFits}
 use Rattle.fault.specs.declared.Refusal.{Refusal}
 use Rattle.trace.specs.Points.{count, twiceArea}
-use Rattle.trace.specs.Pair.{Pair}
-use Rattle.trace.proofs.PairLaws.{refused-not-pair}
+use Rattle.strip.specs.Pair.{Pair}
+use Rattle.fault.proofs.GateLaws.{stopped-not-passed}
+use Rattle.joining.proofs.ListCases.{list-passed}
 use Rattle.ways.specs.Strip.{Step}
 use Rattle.ways.proofs.Greatest.{strip-length}
 use Rattle.ways.proofs.Complete.{listed-best}
@@ -24,7 +25,7 @@ use Rattle.strip.specs.Band.{bandSix}
 use Rattle.strip.specs.Bytes.{bytes, stepsOf}
 use Rattle.strip.proofs.BytesLaws.{bytes-length, steps-bytes}
 use Rattle.joining.specs.Answers.{BestOf}
-use Rattle.joining.specs.Listing.{Beginning, all, some, lined, EnoughLines, ListAnswer, listed}
+use Rattle.joining.specs.Listing.{Beginning, all, some, lined, EnoughLines, ListAnswer, listed, listGates}
 use Rattle.joining.specs.Listing as Joining
 use Rattle.joining.specs.declared.Run.{Run}
 use Rattle.joining.specs.declared.Run.the-variants.{Lines, Refused}
@@ -97,15 +98,14 @@ module _ {a b : List ℤ} (p : Pair a b) where
 
   pub never-refused : {limit : ℕ} {lines work lines′ work′ : List ℕ} {r : Run} {f : Refusal} → limit ≤ 1000 → 500000 ≡ length lines
       → 63001 ≡ length work → ListAnswer a b limit lines work lines′ work′ r → r ≡ Refused f → ⊥
-  never-refused few h k (Joining.ListAnswer.pair q u) e = refused-not-pair q p
-  never-refused few h k (Joining.ListAnswer.room q n u) e = n (enough few h k)
-  never-refused few h k (listed q g l b f c s t) e = let z : _≡_ {A = ℕ} 0 1 = cc in omega arith
+  never-refused {limit} {lines} {work} few h k (Joining.ListAnswer.refused {r = r} x u) e =
+      stopped-not-passed (listGates a b limit lines work) r x (list-passed p (enough few h k))
+  never-refused few h k (listed q l b f c s t) e = let z : _≡_ {A = ℕ} 0 1 = cc in omega arith
 
   pub run-of : {lines work lines′ work′ : List ℕ} {r : Run} {value : ℤ} {n : ℕ} {more : Bool} → ListAnswer a b 1000 lines work lines′ work′ r
       → r ≡ Lines value n more → RunOf a b lines′ value n more
-  run-of (Joining.ListAnswer.pair q u) e = absurd (refused-not-pair q p)
-  run-of (Joining.ListAnswer.room q n u) e = absurd (let z : _≡_ {A = ℕ} 0 1 = cc in omega arith)
-  run-of {lines = old} {value = value} {n = n} {more = more} (listed {more = m} q g l begin f c s t) e =
+  run-of (Joining.ListAnswer.refused x u) e = absurd (let z : _≡_ {A = ℕ} 0 1 = cc in omega arith)
+  run-of {lines = old} {value = value} {n = n} {more = more} (listed {more = m} q l begin f c s t) e =
       let v : value ≡ W a b s = cc in
       let k : n ≡ length l = cc in
       let d : m ≡ more = cc in

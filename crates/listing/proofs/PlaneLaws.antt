@@ -1,6 +1,6 @@
 -- A trace as it was read, judged: over 250 points are MANY by their number alone, else all of it stands in the list. And the two planes,
 -- from tests to 01's words. Assumes nothing.
-use mathlib.Core.Path.{_≡_, sym, ap, _∙_}
+use mathlib.Core.Path.{_≡_, subst}
 use mathlib.Core.Bool.{true, false}
 use mathlib.Core.List.{List}
 use Prim.Native.Nat.{ℕ, _*_, _≤_, _<_}
@@ -14,9 +14,9 @@ use Rattle.fault.specs.declared.Fault.the-variants.{Many}
 use Rattle.trace.specs.declared.Judgement.{Judgement}
 use Rattle.trace.specs.declared.Judgement.the-variants.{Unfit}
 use Rattle.trace.specs.Points.{count}
-use Rattle.trace.specs.Faults.{IsShape, IsFew}
-use Rattle.trace.specs.Judged.{inRange, judged}
-use Rattle.trace.proofs.Exact.{many-exactly}
+use Rattle.trace.specs.Faults.{IsShape, IsFew, Given}
+use Rattle.trace.specs.Judged.{inRange}
+use Rattle.trace.proofs.Exact.{many}
 use Rattle.trace.proofs.PointLaws.{range-within, within-range}
 use Rattle.listing.specs.Pairs.{Held, low, high, fall, PlanesAnswer, wrong, rise}
 use Rattle.listing.specs.declared.pair.Planes.the-variants.{Rise, Wrong}
@@ -27,8 +27,8 @@ pub held-count : {c kept : List ℤ} {m : ℕ} → Held c m kept → count c ≡
 unfolding count
 held-count h = omega (arith, h .counted)
 
-pub held-many : {c kept : List ℤ} {m : ℕ} → Held c m kept → 250 < m → Unfit Many ≡ judged c
-held-many {c} {kept} {m} h k = sym (many-exactly c .1 (even, enough, record { many = omega (arith, held-count h) }))
+pub held-many : {c kept : List ℤ} {m : ℕ} → Held c m kept → 250 < m → Given c (Unfit Many)
+held-many {c} {kept} {m} h k = many even enough (record { many = omega (arith, held-count h) })
   where
     even : IsShape c → ⊥
     even s = omega (arith, s .odd, h .counted)
@@ -39,8 +39,8 @@ held-many {c} {kept} {m} h k = sym (many-exactly c .1 (even, enough, record { ma
 pub held-short : {c kept : List ℤ} {m : ℕ} → Held c m kept → m ≤ 250 → length kept < 2 * m → ⊥
 held-short h k l = omega (arith, h .here k .0)
 
-pub held-judged : {c kept : List ℤ} {m : ℕ} {r : Judgement} → Held c m kept → m ≤ 250 → r ≡ judged (take (2 * m) kept) → r ≡ judged c
-held-judged h k e = e ∙ ap judged (h .here k .1)
+pub held-judged : {c kept : List ℤ} {m : ℕ} {r : Judgement} → Held c m kept → m ≤ 250 → Given (take (2 * m) kept) r → Given c r
+held-judged {r = r} h k g = subst (λ (t : List ℤ). Given t r) (h .here k .1) g
 
 -- ---- the planes
 

@@ -13,11 +13,9 @@ use Rattle.whole.proofs.Machine.{Holds, held, from, plus, minus}
 use Rattle.trace.specs.declared.Judgement.{Judgement}
 use Rattle.trace.specs.declared.Judgement.the-variants.{Fit}
 use Rattle.trace.specs.Points.{twiceArea}
-use Rattle.trace.specs.Faults.{Accepted}
-use Rattle.trace.specs.Judged.{judged}
-use Rattle.trace.specs.Pair.{Pair}
+use Rattle.trace.specs.Faults.{Accepted, Given, unfit, fit}
+use Rattle.strip.specs.Pair.{Pair}
 use Rattle.trace.proofs.PointLaws.{area-within}
-use Rattle.trace.proofs.Exact.{fit-exactly}
 use Rattle.listing.specs.declared.pair.Planes.{Planes}
 use Rattle.listing.specs.declared.pair.Planes.the-variants.{Rise, Wrong}
 use Rattle.listing.specs.Pairs.{PlanesWrong, PlanesRise, PlanesAnswer, wrong, rise}
@@ -36,11 +34,11 @@ pub record Fitted {m : ℕ} {kept : List ℤ} (k : Kept m kept) (area : ℤ) : T
   pub inside : 2 * m ≤ length kept
   pub here : take (2 * m) kept ≡ k .trace
 
-pub fitted : {m : ℕ} {kept : List ℤ} (k : Kept m kept) {j : Judgement} {area : ℤ} {n : ℕ} → j ≡ judged (k .trace) → j ≡ Fit area n → Fitted k area
-fitted {m} k {area = area} {n = n} p q =
-    let e = fit-exactly (k .trace) area n .0 (sym p ∙ q) in
-    let few : m ≤ 250 = omega (arith, held-count (k .held), e .0 .notMany) in
-    record { accepted = e .0; measured = e .1; few = few; inside = k .held .here few .0; here = k .held .here few .1 }
+pub fitted : {m : ℕ} {kept : List ℤ} (k : Kept m kept) {j : Judgement} {area : ℤ} {n : ℕ} → Given (k .trace) j → j ≡ Fit area n → Fitted k area
+fitted k (unfit x) q = absurd (let z : _≡_ {A = ℕ} 0 1 = cc in omega arith)
+fitted {m} k {area = area} {n = n} (fit a) q =
+    let few : m ≤ 250 = omega (arith, held-count (k .held), a .notMany) in
+    record { accepted = a; measured = cc; few = few; inside = k .held .here few .0; here = k .held .here few .1 }
 
 -- both are fit: what the lines are told of, and the sum of their areas
 module _ {m n : ℕ} {a b : List ℤ} {ka : Kept m a} {kb : Kept n b} {x y : ℤ} (p : Fitted ka x) (q : Fitted kb y) where

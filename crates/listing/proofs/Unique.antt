@@ -11,8 +11,8 @@ use lib.Signed.{quotZ}
 use Rattle.whole.proofs.Order.{clash}
 use Rattle.fault.specs.declared.Fault.the-variants.{Planes}
 use Rattle.trace.specs.Points.{twiceArea}
-use Rattle.trace.specs.Pair.{at}
-use Rattle.trace.proofs.PairLaws.{pair-refused-unique, refused-not-pair}
+use Rattle.fault.specs.Gates.{at}
+use Rattle.strip.proofs.PairLaws.{pair-refused-unique, refused-not-pair}
 use Rattle.ways.specs.Strip.{Step}
 use Rattle.ways.proofs.Unique.{best-same}
 use Rattle.strip.specs.Worth.{W}

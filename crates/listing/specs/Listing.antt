@@ -9,7 +9,8 @@ use lib.ListN.{length, drop}
 use Rattle.fault.specs.declared.Refusal.{Refusal}
 use Rattle.fault.specs.declared.Fault.the-variants.{Room, Planes, Text}
 use Rattle.fault.specs.Number.{numberOf}
-use Rattle.trace.specs.Pair.{at, Pair, PairRefused}
+use Rattle.fault.specs.Gates.{at}
+use Rattle.strip.specs.Pair.{Pair, PairRefused}
 use Rattle.ways.specs.Strip.{Step}
 use Rattle.strip.specs.Worth.{W}
 use Rattle.strip.specs.Band.{bandSix}

@@ -6,7 +6,7 @@ ghost use lib.ListN.{length};
 ghost use lib.Signed.{quotZ};
 ghost use Rattle.whole.specs.Between.{Within};
 ghost use Rattle.trace.specs.Points.{twiceArea};
-ghost use Rattle.trace.specs.Pair.{Pair};
+ghost use Rattle.strip.specs.Pair.{Pair};
 ghost use Rattle.listing.specs.Listing.{BestLines, longest};
 ghost use Rattle.listing.specs.Telling.{Told, linesOf};
 ghost use Rattle.listing.specs.Writing.{Room, Wrote};

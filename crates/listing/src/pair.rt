@@ -4,7 +4,7 @@ ghost use mathlib.Core.List.{List};
 ghost use Prim.Native.Nat.{_≤_};
 ghost use lib.IntN.{ℤ};
 ghost use lib.ListN.{length};
-ghost use Rattle.trace.specs.Judged.{judged};
+ghost use Rattle.trace.specs.Faults.{Given};
 ghost use Rattle.fault.specs.Number.{numberOf};
 ghost use Rattle.listing.specs.Lines.{refusedLine};
 ghost use Rattle.listing.specs.Writing.{Wrote};
@@ -18,7 +18,7 @@ use trace::in_range;
 
 // The judgement of a trace of `count` points, of which no more than 250 were kept: over 250 points are MANY, whatever they are.
 pub(crate) fn judge_read(kept: &[i32], count: usize) -> Judgement
-    ensures { λ r. ⌜ ((c : List ℤ) → Held c count (now (kept .entry)) → r ≡ judged c) ⌝ }
+    ensures { λ r. ⌜ ((c : List ℤ) → Held c count (now (kept .entry)) → Given c r) ⌝ }
 {
     if 250 < count {
         return Judgement::Unfit(Fault::Many);

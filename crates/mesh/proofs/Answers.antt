@@ -2,8 +2,8 @@
 -- `volume` and `triangles` leave one outcome for each input.
 --
 -- The stack's bands are bands between rings of vertex numbers (`Stacked`), its caps have their traces as borders, so `Balance` and
--- `Volumes` give the first two; the bound is `Stacked`'s, and that the list's numbers are points is `Vertices`'. Of two outcomes, the
--- one that comes later in 01's order contradicts the earlier. Assumes nothing.
+-- `Volumes` give the first two; the bound is `Stacked`'s, and that the list's numbers are points is `Vertices`'. What
+-- the gates stop has not passed them. Assumes nothing.
 use mathlib.Core.Path.{_≡_, refl, sym, ap, _∙_}
 use mathlib.Core.List.{List}
 use Prim.Native.Nat.{ℕ, _-_, _*_, _/_, _≤_, _<_}
@@ -19,14 +19,16 @@ use Rattle.stack.specs.Faults.{AcceptedStack}
 use Rattle.stack.specs.Strips.{StripsRight}
 use Rattle.stack.specs.Gathered.{Gathers}
 use Rattle.stack.specs.Laid.{laid}
-use Rattle.stack.proofs.Exact.{refused-once, refused-not-accepted, strips-refused-once, strips-refused-not-right}
+use Rattle.fault.proofs.GateLaws.{due-single, holds, one-stop, stopped-not-passed}
+use Rattle.stack.proofs.Cases.{stack-single, stack-open, strips-single, strips-open}
 use Rattle.stack.proofs.Laying.{laid-gathers}
 use Rattle.stack.proofs.StackLaws.{accepted-count}
 use Rattle.mesh.specs.declared.Volumed.{Volumed}
 use Rattle.mesh.specs.declared.Volumed.the-variants as volume-is
 use Rattle.mesh.specs.declared.Meshed.{Meshed}
 use Rattle.mesh.specs.declared.Meshed.the-variants as mesh-is
-use Rattle.mesh.specs.Meshing.{Measured, Triangled, stack, strips, six, room, whole}
+use Rattle.mesh.specs.Meshing.{volumeGates, listGates, Measured, Triangled, six, whole}
+use Rattle.mesh.specs.Meshing as answer
 use Rattle.mesh.specs.Triangles.{Tri, sides}
 use Rattle.mesh.specs.Volume.{sixAll}
 use Rattle.mesh.specs.Closed.{ring, closed, floorOf, roofOf, triangles, numbers}
@@ -94,43 +96,27 @@ pub closed-is-true : {es : List Layer} {c : List ℤ} {l out new : List ℕ} {n 
     → Triangled es c l out new (mesh-is.Closed n s) → True es c (closed es l) n s
 closed-is-true (whole a _ r) = record {
   number = sym (closed-length r (omega (arith, a .layers .two)));
-  volume = sym (volume-is-the-band-rule a r);
+  volume = refl;
   balance = sides-balance a r;
 }
 
 -- ---- two outcomes that the contracts allow for one input coincide
 
-short-long : {m n : ℕ} → m < n → n ≤ m → ⊥
-short-long h g = omega arith
-
 module _ {es : List Layer} {c : List ℤ} {l : List ℕ} where
   pub measured-once : {r s : Volumed} → Measured es c l r → Measured es c l s → r ≡ s
-  measured-once (stack p) (stack q) = ap volume-is.Refused (refused-once p q)
-  measured-once (stack p) (strips a _) = absurd (refused-not-accepted p a)
-  measured-once (stack p) (six a _) = absurd (refused-not-accepted p a)
-  measured-once (strips a _) (stack q) = absurd (refused-not-accepted q a)
-  measured-once (strips _ p) (strips _ q) = ap volume-is.Refused (strips-refused-once p q)
-  measured-once (strips _ p) (six _ s) = absurd (strips-refused-not-right p s)
-  measured-once (six a _) (stack q) = absurd (refused-not-accepted q a)
-  measured-once (six _ s) (strips _ q) = absurd (strips-refused-not-right q s)
+  measured-once (answer.Measured.refused {r = r} x) (answer.Measured.refused {r = q} y) =
+      ap volume-is.Refused (one-stop (volumeGates es c l) (stack-single, (strips-single, tt)) r q x y)
+  measured-once (answer.Measured.refused {r = r} x) (six a s) = absurd (stopped-not-passed (volumeGates es c l) r x (stack-open a, (strips-open s, tt)))
+  measured-once (six a s) (answer.Measured.refused {r = r} x) = absurd (stopped-not-passed (volumeGates es c l) r x (stack-open a, (strips-open s, tt)))
   measured-once (six _ _) (six _ _) = refl
 
   pub triangled-once : {out new old : List ℕ} {r s : Meshed} → Triangled es c l out new r → Triangled es c l out old s → (new ≡ old) × (r ≡ s)
-  triangled-once (stack p) (stack q) = (refl, ap mesh-is.Refused (refused-once p q))
-  triangled-once (stack p) (room a _) = absurd (refused-not-accepted p a)
-  triangled-once (stack p) (strips a _ _) = absurd (refused-not-accepted p a)
-  triangled-once (stack p) (whole a _ _) = absurd (refused-not-accepted p a)
-  triangled-once (room a _) (stack q) = absurd (refused-not-accepted q a)
-  triangled-once (room _ _) (room _ _) = (refl, refl)
-  triangled-once (room _ h) (strips _ g _) = absurd (short-long h g)
-  triangled-once (room _ h) (whole _ g _) = absurd (short-long h g)
-  triangled-once (strips a _ _) (stack q) = absurd (refused-not-accepted q a)
-  triangled-once (strips _ g _) (room _ h) = absurd (short-long h g)
-  triangled-once (strips _ _ p) (strips _ _ q) = (refl, ap mesh-is.Refused (strips-refused-once p q))
-  triangled-once (strips _ _ p) (whole _ _ s) = absurd (strips-refused-not-right p s)
-  triangled-once (whole a _ _) (stack q) = absurd (refused-not-accepted q a)
-  triangled-once (whole _ g _) (room _ h) = absurd (short-long h g)
-  triangled-once (whole _ _ s) (strips _ _ q) = absurd (strips-refused-not-right q s)
+  triangled-once {out} (answer.Triangled.refused {r = r} x) (answer.Triangled.refused {r = q} y) =
+      (refl, ap mesh-is.Refused (one-stop (listGates es c l out) (stack-single, (due-single, (strips-single, tt))) r q x y))
+  triangled-once {out} (answer.Triangled.refused {r = r} x) (whole a h s) =
+      absurd (stopped-not-passed (listGates es c l out) r x (stack-open a, (holds h, (strips-open s, tt))))
+  triangled-once {out} (whole a h s) (answer.Triangled.refused {r = r} x) =
+      absurd (stopped-not-passed (listGates es c l out) r x (stack-open a, (holds h, (strips-open s, tt))))
   triangled-once (whole _ _ _) (whole _ _ _) = (refl, refl)
 
 -- `volume` leaves one answer for each input: every Stack gathers some entries.

@@ -2,6 +2,7 @@
 pub mod Answers
 pub mod Balance
 pub mod Volumes
+mod Cases
 mod Rings
 mod Parts
 mod Stacked

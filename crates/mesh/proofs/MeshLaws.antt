@@ -1,6 +1,6 @@
 -- What the entry points answer, from what the judgements say of the entries that the arrays hold to what 01 says of all that the
 -- stack gathers: an answer for over 20 layers is the stack's refusal whatever the entries are. Assumes nothing.
-use mathlib.Core.Path.{_≡_, sym, subst}
+use mathlib.Core.Path.{_≡_, sym, _∙_, subst}
 use mathlib.Core.List.{List}
 use Prim.Native.Nat.{ℕ, _+_, _-_, _*_, _≤_, _<_}
 use native.Mathlib.Omega.{arith}
@@ -10,7 +10,7 @@ use mir.Syntax.{w64}
 use mir.Val.{toZ, ofZ}
 use Rattle.whole.proofs.Machine.{held, from}
 use Rattle.fault.specs.declared.Fault.the-variants.{Room}
-use Rattle.trace.specs.Pair.{at}
+use Rattle.fault.specs.Gates.{at}
 use Rattle.stack.specs.declared.Layer.{Layer}
 use Rattle.stack.specs.declared.Stack.{Stack}
 use Rattle.stack.specs.declared.StackJudgement.{StackJudgement}
@@ -28,10 +28,11 @@ use Rattle.mesh.specs.declared.Volumed.the-variants.{Six}
 use Rattle.mesh.specs.declared.Meshed.the-variants as mesh-is
 use Rattle.mesh.specs.Closed.{closed, triangles}
 use Rattle.mesh.specs.Bands.{sixOf}
-use Rattle.mesh.specs.Meshing.{Measured, six, Triangled, room, whole}
+use Rattle.mesh.specs.Meshing.{sixTimes, Measured, six, Triangled, whole}
+use Rattle.mesh.proofs.Cases.{list-room}
 use Rattle.mesh.specs.Working.{Fitted, Sized}
 use Rattle.mesh.specs.Writing.{Put}
-use Rattle.mesh.proofs.Answers.{volume-bounded}
+use Rattle.mesh.proofs.Answers.{volume-bounded, volume-is-the-band-rule}
 use Rattle.mesh.proofs.WriteLaws.{numbers-length}
 use Rattle.mesh.proofs.ClosedLaws.{closed-length}
 
@@ -44,9 +45,10 @@ fitted {st} s e t f =
 
 -- ---- the volume
 
+-- what the band rule gives is the sum over the triangles
 six-read : {st : Stack} {c : List ℤ} {l : List ℕ} {v : ℤ} → Fitted st c l → v ≡ sixOf (laid st) c l
-    → toZ w64 (ofZ w64 v) ≡ sixOf (laid st) c l
-six-read f e = held w64 (from e (volume-bounded (f .stack) (f .strips))) tt .is
+    → toZ w64 (ofZ w64 v) ≡ sixTimes (laid st) c l
+six-read f e = held w64 (from e (volume-bounded (f .stack) (f .strips))) tt .is ∙ sym (volume-is-the-band-rule (f .stack) (f .strips))
 
 pub measured : {st : Stack} {c : List ℤ} {l : List ℕ} {v : ℤ} → Fitted st c l → v ≡ sixOf (laid st) c l
     → (es : List Layer) → Gathers st es → Measured es c l (Six (toZ w64 (ofZ w64 v)))
@@ -88,7 +90,7 @@ pub no-room : {st : Stack} {c : List ℤ} {l out : List ℕ} {j : StackJudgement
     → (es : List Layer) → Gathers st es → Triangled es c l out out (mesh-is.Refused (at Room 0))
 no-room {st} s e f h =
     let a = stack-fit s e (laid st) (laid-gathers st) in
-    for-gathered _ st (laid-twenty st (a .layers)) (room a (omega arith))
+    for-gathered _ st (laid-twenty st (a .layers)) (list-room a (omega arith))
 
 pub roomy : {st : Stack} {es : List Layer} {c : List ℤ} (out : List ℕ) {count : ℕ} → AcceptedStack es c → Gathers st es
     → count ≡ triangles (laid st) → 3 * count ≤ length out → 3 * triangles es ≤ length out

@@ -20,14 +20,14 @@ use Rattle.fault.specs.declared.Refusal.{Refusal}
 use Rattle.trace.specs.declared.Judgement.{Judgement}
 use Rattle.trace.specs.declared.Judgement.the-variants.{Fit, Unfit}
 use Rattle.trace.specs.Points.{count, twiceArea}
-use Rattle.trace.specs.Faults.{Accepted}
-use Rattle.trace.specs.Judged.{judged}
+use Rattle.trace.specs.Faults.{Accepted, Given, unfit, fit}
 use Rattle.trace.proofs.PointLaws.{area-within}
-use Rattle.trace.proofs.Exact.{fit-exactly}
+use Rattle.trace.proofs.Exact.{judgement-unique}
 use Rattle.strip.specs.declared.Valued.{Valued}
 use Rattle.strip.specs.declared.Valued.the-variants.{Value, Refused}
 use Rattle.strip.specs.Worth.{W}
-use Rattle.strip.specs.Judging.{StripJudged, strip}
+use Rattle.strip.specs.Judging.{StripJudged}
+use Rattle.strip.proofs.JudgingLaws.{strip}
 use Rattle.strip.proofs.ValueLaws.{W-within}
 use Rattle.strip.specs.Band.{bandSix}
 use Rattle.strip.proofs.BandLaws.{half-within}
@@ -48,13 +48,14 @@ use Rattle.mesh.proofs.Stacked.{sums-within}
 
 -- ---- judgements
 
-pub area-told : (a : List ℤ) {j : Judgement} {area : ℤ} {n : ℕ} → j ≡ judged a → j ≡ Fit area n → area ≡ twiceArea a
-area-told a {area = area} {n = n} e f = fit-exactly a area n .0 (sym e ∙ f) .1
+pub area-told : (a : List ℤ) {j : Judgement} {area : ℤ} {n : ℕ} → Given a j → j ≡ Fit area n → area ≡ twiceArea a
+area-told a (fit p) e = cc
+area-told a (unfit x) e = absurd (let z : _≡_ {A = ℕ} 0 1 = cc in omega arith)
 
-pub never-unfit : {a : List ℤ} {j : Judgement} {f : Fault} → Accepted a → j ≡ judged a → j ≡ Unfit f → ⊥
-never-unfit {a} {j} p e u = differ (sym u ∙ e ∙ fit-exactly a (twiceArea a) (count a) .1 (p, refl, refl))
+pub never-unfit : {a : List ℤ} {j : Judgement} {f : Fault} → Accepted a → Given a j → j ≡ Unfit f → ⊥
+never-unfit p g e = differ (judgement-unique (fit p) g ∙ e)
   where
-    differ : {f : Fault} {area : ℤ} {n : ℕ} → Unfit f ≡ Fit area n → ⊥
+    differ : {f : Fault} {area : ℤ} {n : ℕ} → Fit area n ≡ Unfit f → ⊥
     differ e = let z : _≡_ {A = ℕ} 0 1 = cc in omega arith
 
 module _ {a b : List ℤ} {l : List ℕ} (j : Joined a b l) where

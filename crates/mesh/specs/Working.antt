@@ -3,7 +3,7 @@ use mathlib.Core.List.{List}
 use Prim.Native.Nat.{ℕ, _≤_, _<_}
 use lib.IntN.{ℤ}
 use Rattle.trace.specs.Points.{count}
-use Rattle.trace.specs.Pair.{Pair}
+use Rattle.strip.specs.Pair.{Pair}
 use Rattle.strip.specs.Bytes.{IsStrip}
 use Rattle.stack.specs.declared.Stack.{Stack}
 use Rattle.stack.specs.Entries.{entry, steps}

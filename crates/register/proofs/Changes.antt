@@ -2,18 +2,18 @@
 -- exchanged, or two blocks are, is refused with CHECK at the lowest block touched, and nothing is shown. By the theorems of `blocks`:
 -- 65,521 is prime, and the number of a block counts. Assumes nothing.
 use mathlib.Core.Path.{_≡_, refl, ap, subst}
+use mathlib.Core.Logic.{inl, inr}
 use mathlib.Core.List.{List}
 use Prim.Native.Nat.{ℕ, _*_, _/_, _%_, _<_, min}
 use native.Mathlib.Omega.{arith}
 use lib.ListN.{length, getD, set}
-use Rattle.fault.specs.declared.Refusal.{Refusal}
 use Rattle.fault.specs.declared.Fault.the-variants.{Check}
-use Rattle.trace.specs.Pair.{at}
+use Rattle.fault.specs.Gates.{at}
 use Rattle.blocks.specs.Faults.{Sound, BlocksJudged}
-use Rattle.blocks.specs.declared.BlocksJudgement.{BlocksJudgement}
 use Rattle.blocks.specs.declared.BlocksJudgement.the-variants as blocks-are
 use Rattle.blocks.proofs.BlockLaws.{exchangedBlocks}
-use Rattle.blocks.proofs.Changes.{exchanged, one-byte-changed, one-byte-refused, two-bytes-exchanged, two-bytes-refused, two-blocks-exchanged, two-blocks-refused}
+use Rattle.blocks.proofs.Cases.{blocks-single, blocks-open, blocks-stopped}
+use Rattle.blocks.proofs.Changes.{exchanged, one-byte-refused, two-bytes-refused, two-blocks-refused}
 use Rattle.register.specs.declared.ReadBack.{ReadBack}
 use Rattle.register.specs.declared.ReadBack.the-variants as read-is
 use Rattle.register.specs.Reading.{Lent, ReadAnswer}
@@ -24,20 +24,13 @@ use Rattle.register.proofs.RoundTrip.{IsFile, blocksIn, file-sound}
 pub record Caught (g : List ℕ) (b : ℕ) : Type 0 where
   pub refused : {x y : Lent} {r : ReadBack} → ReadAnswer g x y r → (r ≡ read-is.Refused (at Check b)) × (y ≡ x)
 
-caught : (g : List ℕ) (b : ℕ) → ((m : ℕ) → Sound g m → ⊥) → ((j : BlocksJudgement) → BlocksJudged g j → j ≡ blocks-are.Refused (at Check b)) → Caught g b
-caught g b unsound judged = record { refused = of }
+caught : (g : List ℕ) (b : ℕ) → BlocksJudged g (blocks-are.Refused (at Check b)) → Caught g b
+caught g b j = record { refused = of }
   where
-    same : {q : Refusal} → blocks-are.Refused q ≡ blocks-are.Refused (at Check b) → q ≡ at Check b
-    same e = cc
-
     of : {x y : Lent} {r : ReadBack} → ReadAnswer g x y r → (r ≡ read-is.Refused (at Check b)) × (y ≡ x)
-    of (read.blocks j) = (ap read-is.Refused (same (judged _ j)), refl)
-    of (read.layers {n = n} s j) = absurd (unsound n s)
-    of (read.content {n = n} s i j) = absurd (unsound n s)
-    of (read.stack {n = n} s i t j) = absurd (unsound n s)
-    of (read.room {n = n} s t a j) = absurd (unsound n s)
-    of (read.strips {n = n} s t a i j) = absurd (unsound n s)
-    of (read.whole {n = n} s t a i j) = absurd (unsound n s)
+    of (read.refused {r = r} (inl k)) = (ap read-is.Refused (blocks-single r (at Check b) k (blocks-stopped j)), refl)
+    of (read.refused (inr k)) = absurd (k .0 (at Check b) (blocks-stopped j))
+    of (read.whole s t a i k) = absurd (blocks-open s (at Check b) (blocks-stopped j))
 
 -- an accepted file is sound
 pub record SoundFile (f : List ℕ) : Type 0 where
@@ -55,20 +48,20 @@ module _ {f : List ℕ} (file : IsFile f) where
   pub change-caught : (i v : ℕ) → i < length f → getD f i 0 < 256 → v < 256 → (v ≡ getD f i 0 → ⊥) → Caught (set f i v) (i / 512)
   change-caught i v h old new d =
       let s = sound-file file .sound in
-      caught (set f i v) (i / 512) (one-byte-changed s i v h old new d) (λ j. one-byte-refused s i v h old new d)
+      caught (set f i v) (i / 512) (one-byte-refused s i v h old new d)
 
   -- any exchange of two unequal bytes of one block's contents
   pub bytes-caught : (i j : ℕ) → i / 512 ≡ j / 512 → i % 512 < 508 → j % 512 < 508 → i < length f → getD f i 0 < 256 → getD f j 0 < 256
       → (getD f i 0 ≡ getD f j 0 → ⊥) → Caught (exchanged f i j) (i / 512)
   bytes-caught i j same ci cj h hx hy d =
       let s = sound-file file .sound in
-      caught (exchanged f i j) (i / 512) (two-bytes-exchanged s i j same ci cj h hx hy d) (λ k. two-bytes-refused s i j same ci cj h hx hy d)
+      caught (exchanged f i j) (i / 512) (two-bytes-refused s i j same ci cj h hx hy d)
 
   -- any exchange of two blocks
   pub blocks-caught : (b c : ℕ) → 512 * b < length f → 512 * c < length f → (b ≡ c → ⊥) → Caught (exchangedBlocks f b c) (min b c)
   blocks-caught b c hb hc d =
       let s = sound-file file .sound in
-      caught (exchangedBlocks f b c) (min b c) (two-blocks-exchanged s b c (below hb) (below hc) d) (λ j. two-blocks-refused s b c (below hb) (below hc) d)
+      caught (exchangedBlocks f b c) (min b c) (two-blocks-refused s b c (below hb) (below hc) d)
     where
       below : {d : ℕ} → 512 * d < length f → d < sound-file file .n
       below h = omega (arith, sound-file file .sound .blocks .whole)

@@ -4,13 +4,15 @@ pub mod RoundTrip
 pub mod Changes
 pub mod WriteExact
 pub mod ReadExact
+mod WriteCases
 mod PutLaws
 mod WriteLaws
 mod DecodeLaws
 mod ChainLaws
-mod StoredLaws
+pub mod StoredLaws
 mod SignLaws
 mod GatherLaws
 mod FrontLaws
 mod ExtentLaws
+pub mod ReadGates
 mod ReadCases

@@ -13,7 +13,7 @@ use borrow.Author.Tests.{ltb-false, le-ltb}
 use Rattle.whole.proofs.TestLaws.{true≢false, or-false}
 use Rattle.fault.specs.declared.Refusal.{Refusal}
 use Rattle.fault.specs.declared.Fault.the-variants.{Layers, Content, Room}
-use Rattle.trace.specs.Pair.{at}
+use Rattle.fault.specs.Gates.{at}
 use Rattle.stack.specs.declared.Layer.{Layer}
 use Rattle.stack.specs.declared.Stack.{Stack}
 use Rattle.stack.specs.declared.StackJudgement.{StackJudgement}
@@ -35,7 +35,8 @@ use Rattle.register.specs.declared.ReadBack.the-variants as read-is
 use Rattle.register.specs.declared.judging.Extent.{Extent}
 use Rattle.register.specs.Stored.{Stored, layersIn, LayersIn, ContentFault}
 use Rattle.register.specs.Decoding.{twoOf, layersFrom, coordsFrom, layersOf, coordsOf, stripsOf, StoredHere}
-use Rattle.register.specs.Reading.{Lent, lent, EnoughFor, filled, ReadAnswer, blocks, layers, content, stack, room, strips, whole}
+use Rattle.register.specs.Reading.{Lent, lent, EnoughFor, filled, ReadAnswer, whole}
+use Rattle.register.proofs.ReadGates.{blocks, layers, content, stack, room, strips}
 use Rattle.whole.specs.Filled.{Filled}
 use Rattle.register.specs.Answering.{contentsEnd, Layered, Ready, ReadFrom, blocksRefusal}
 use Rattle.stack.specs.Gathered.{Gathers}
@@ -62,7 +63,7 @@ module _ {k : List ℕ} {x : Lent} {r : ReadBack} where
 
 pub stack-wrong : {k : List ℕ} {x : Lent} {r : Refusal} → LayersIn k → StoredHere k → StackJudged (layersOf k) (coordsOf k) (stack-is.Refused r)
     → ReadFrom k x x (read-is.Refused r)
-stack-wrong l st j = record { answer = λ f n s e. stack s (subst LayersIn (sym e) l) (stored-of e st) j }
+stack-wrong l st j = record { answer = λ f n s e. stack s (stored-of e st) (subst LayersIn (sym e) l) j }
 
 pub strips-wrong : {k : List ℕ} {x : Lent} {r : Refusal} → StoredHere k → AcceptedStack (layersOf k) (coordsOf k)
     → EnoughFor (layersOf k) (coordsOf k) (stripsOf k) x → StripsJudged (layersOf k) (stripsOf k) (strips-are.Refused r)

@@ -141,12 +141,7 @@ pub record WrittenFor (f : List ℕ) (x y : Lent) (layers points n : ℕ) : Type
 pub read-is-written : {f : List ℕ} {x y : Lent} {r : ReadBack} {layers points n : ℕ} → ReadAnswer f x y r → r ≡ read-is.Whole layers points n
     → WrittenFor f x y layers points n
 unfolding registerFile
-read-is-written (read.blocks j) e = absurd (let z : _≡_ {A = ℕ} 0 1 = cc in omega arith)
-read-is-written (read.layers s j) e = absurd (let z : _≡_ {A = ℕ} 0 1 = cc in omega arith)
-read-is-written (read.content s i j) e = absurd (let z : _≡_ {A = ℕ} 0 1 = cc in omega arith)
-read-is-written (read.stack s i t j) e = absurd (let z : _≡_ {A = ℕ} 0 1 = cc in omega arith)
-read-is-written (read.room s t a j) e = absurd (let z : _≡_ {A = ℕ} 0 1 = cc in omega arith)
-read-is-written (read.strips s t a i j) e = absurd (let z : _≡_ {A = ℕ} 0 1 = cc in omega arith)
+read-is-written (read.refused x) e = absurd (let z : _≡_ {A = ℕ} 0 1 = cc in omega arith)
 read-is-written {layers = layers} {points = points} {n = n} (read.whole {es = es} {c = c} {l = l} s t a i j) e = record {
   es = es;
   c = c;

@@ -24,7 +24,8 @@ use Rattle.stack.proofs.Told.{OfStack}
 use Rattle.blocks.specs.Blocks.{blocksFor}
 use Rattle.blocks.specs.declared.Sealing.{Sealing}
 use Rattle.blocks.specs.declared.Sealing.the-variants as sealing-is
-use Rattle.blocks.specs.Faults.{SealAnswer}
+use Rattle.blocks.specs.Faults.{sealGates, SealAnswer}
+use Rattle.fault.proofs.GateLaws.{holds, stopped-not-passed}
 use Rattle.blocks.specs.Faults as seal
 use Rattle.register.specs.declared.Written.the-variants as written-is
 use Rattle.register.specs.Contents.{contents, contentsLong, registerFile}
@@ -97,22 +98,21 @@ module _ {es : List Layer} {c : List ℤ} {l : List ℕ} (a : AcceptedStack es c
   pub never-unsealed : {out out′ : List ℕ} {s : Sealing} {q : Refusal} → fileLong es c ≤ length out → SealAnswer (contents es c l) out out′ s
       → s ≡ sealing-is.Refused q → ⊥
   unfolding fileLong
-  never-unsealed h (seal.block n) e = n (rw long (blocks-some a)) (rw long (blocks-few a))
-  never-unsealed h (seal.room i j k) e = omega (arith, rw long at k)
+  never-unsealed {out} h (seal.SealAnswer.refused {r = r} x) e =
+      stopped-not-passed (sealGates (contents es c l) out) r x
+      (holds (rw long (blocks-some a), rw long (blocks-few a)), (holds (rw long h), tt))
   never-unsealed h (seal.sealed i j k) e = let z : _≡_ {A = ℕ} 0 1 = cc in omega arith
 
   pub sealed-as : {out out′ : List ℕ} {s : Sealing} {n : ℕ} → fileLong es c ≤ length out → SealAnswer (contents es c l) out out′ s
       → s ≡ sealing-is.Blocks n → WriteAnswer es c l out out′ (written-is.Bytes (512 * n))
   unfolding fileLong registerFile
-  sealed-as h (seal.block k) e = absurd (let z : _≡_ {A = ℕ} 0 1 = cc in omega arith)
-  sealed-as h (seal.room i j k) e = absurd (let z : _≡_ {A = ℕ} 0 1 = cc in omega arith)
+  sealed-as h (seal.SealAnswer.refused x) e = absurd (let z : _≡_ {A = ℕ} 0 1 = cc in omega arith)
   sealed-as {out} {n = n} h (seal.sealed i j k) e =
       let is : blocksFor (length (contents es c l)) ≡ n = cc in
       let same : 512 * n ≡ fileLong es c = ap (λ (m : ℕ). 512 * m) (sym is ∙ ap blocksFor long) in
       rw (same, ap (λ (m : ℕ). 512 * blocksFor m) long) (written a h r)
 
   pub blocks-told : {out out′ : List ℕ} {s : Sealing} {n : ℕ} → SealAnswer (contents es c l) out out′ s → s ≡ sealing-is.Blocks n → n ≤ 98
-  blocks-told (seal.block k) e = absurd (let z : _≡_ {A = ℕ} 0 1 = cc in omega arith)
-  blocks-told (seal.room i j k) e = absurd (let z : _≡_ {A = ℕ} 0 1 = cc in omega arith)
+  blocks-told (seal.SealAnswer.refused x) e = absurd (let z : _≡_ {A = ℕ} 0 1 = cc in omega arith)
   blocks-told {n = n} (seal.sealed i j k) e =
       let is : blocksFor (length (contents es c l)) ≡ n = cc in omega arith

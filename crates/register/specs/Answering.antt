@@ -5,7 +5,7 @@ use Prim.Native.Nat.{ℕ, _+_, _*_, _-_, _≤_, _<_}
 use lib.ListN.{length, drop, replicate}
 use Rattle.fault.specs.declared.Refusal.{Refusal}
 use Rattle.fault.specs.declared.Fault.the-variants.{Block}
-use Rattle.trace.specs.Pair.{at}
+use Rattle.fault.specs.Gates.{at}
 use Rattle.stack.specs.declared.Stack.{Stack}
 use Rattle.stack.specs.Entries.{steps}
 use Rattle.stack.specs.Gathered.{Gathers}

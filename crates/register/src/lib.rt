@@ -2,7 +2,7 @@
 ghost use mathlib.Core.Path.{_≡_};
 ghost use mathlib.Core.List.{List};
 ghost use lib.ListN.{length};
-ghost use Rattle.trace.specs.Pair.{at};
+ghost use Rattle.fault.specs.Gates.{at};
 ghost use Rattle.stack.specs.declared.Layer.{Layer};
 ghost use Rattle.stack.specs.Gathered.{Gathers};
 ghost use Rattle.register.specs.Reading.{lent, ReadAnswer};

@@ -2,7 +2,7 @@
 ghost use mathlib.Core.Path.{_≡_};
 ghost use Prim.Native.Nat.{_≤_};
 ghost use lib.ListN.{length};
-ghost use Rattle.trace.specs.Pair.{at};
+ghost use Rattle.fault.specs.Gates.{at};
 ghost use Rattle.stack.specs.Faults.{AcceptedStack};
 ghost use Rattle.register.specs.Decoding.{layersOf, coordsOf, stripsOf};
 ghost use Rattle.register.specs.Reading.{lent, EnoughFor, filled};

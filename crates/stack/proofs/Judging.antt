@@ -15,16 +15,16 @@ use Rattle.fault.specs.declared.Refusal.{Refusal}
 use Rattle.fault.specs.declared.Fault.the-variants.{Layers}
 use Rattle.trace.specs.declared.Judgement.{Judgement}
 use Rattle.trace.specs.declared.Judgement.the-variants as trace-is
-use Rattle.trace.specs.Points.{count, twiceArea}
-use Rattle.trace.specs.Faults.{Accepted}
-use Rattle.trace.specs.Judged.{judged}
-use Rattle.trace.specs.Pair.{at, refusalOf}
-use Rattle.trace.proofs.Exact.{fit-exactly}
+use Rattle.trace.specs.Faults.{Accepted, Given}
+use Rattle.trace.specs.Faults as given
+use Rattle.fault.specs.Gates.{at}
+use Rattle.trace.specs.Refused.{refusalOf}
 use Rattle.stack.specs.declared.Layer.{Layer}
 use Rattle.stack.specs.declared.Stack.{Stack}
 use Rattle.stack.specs.declared.StackJudgement.the-variants.{Fit, Refused}
 use Rattle.stack.specs.Entries.{entry, traceOf, steps}
-use Rattle.stack.specs.Faults.{LayersRight, Spanned, AcceptedStack, StackJudged, layers, trace, fit}
+use Rattle.stack.specs.Faults.{LayersRight, Spanned, AcceptedStack, StackJudged, fit}
+use Rattle.stack.proofs.Cases.{accepted-unfaulted, layers, trace}
 use Rattle.stack.specs.Gathered.{Gathers}
 use Rattle.stack.specs.Laid.{laid}
 use Rattle.stack.proofs.Laying.{laid-long}
@@ -32,24 +32,19 @@ use Rattle.stack.proofs.StackLaws.{accepted-steps}
 
 -- ---- traces
 
-unfit-fit : {f : Fault} {area : ℤ} {n : ℕ} → trace-is.Unfit f ≡ trace-is.Fit area n → ⊥
-unfit-fit e = let z : _≡_ {A = ℕ} 0 1 = cc in omega arith
-
-pub accepted-unfaulted : {t : List ℤ} {f : Fault} → Accepted t → judged t ≡ trace-is.Unfit f → ⊥
-accepted-unfaulted {t} a e = unfit-fit (sym e ∙ fit-exactly t (twiceArea t) (count t) .1 (a, refl, refl))
-
-pub fit-accepted : (t : List ℤ) {j : Judgement} {area : ℤ} {n : ℕ} → j ≡ judged t → j ≡ trace-is.Fit area n → Accepted t
-fit-accepted t {area = area} {n = n} e f = fit-exactly t area n .0 (sym e ∙ f) .0
+pub fit-accepted : (t : List ℤ) {j : Judgement} {area : ℤ} {n : ℕ} → Given t j → j ≡ trace-is.Fit area n → Accepted t
+fit-accepted t (given.fit a) e = a
+fit-accepted t (given.unfit x) e = absurd (let z : _≡_ {A = ℕ} 0 1 = cc in omega arith)
 
 -- the traces below k are fit, and that of k is not
 pub trace-refused : {es : List Layer} {c : List ℤ} {k : ℕ} {j : Judgement} {f : Fault} {r : Refusal}
     → LayersRight es → Spanned es c → k < length es → ((i : ℕ) → i < k → Accepted (traceOf c (entry es i)))
-    → j ≡ judged (traceOf c (entry es k)) → j ≡ trace-is.Unfit f → r ≡ refusalOf j k → StackJudged es c (Refused r)
+    → Given (traceOf c (entry es k)) j → j ≡ trace-is.Unfit f → r ≡ refusalOf j k → StackJudged es c (Refused r)
 trace-refused {es} {c} {k} l s h below e u q =
     subst (λ (r : Refusal). StackJudged es c (Refused r)) (ap (λ (j : Judgement). refusalOf j k) (sym u) ∙ sym q)
     (trace l s (record {
       below = h;
-      here = record { fault = _; given = sym e ∙ u };
+      here = record { fault = _; given = subst (Given (traceOf c (entry es k))) u e };
       none = λ i b t. accepted-unfaulted (below i b) (t .given);
     }))
 

@@ -18,7 +18,7 @@ use Rattle.whole.proofs.Order.{≤ℤ-or->}
 use Rattle.whole.proofs.TestLaws.{true≢false}
 use Rattle.trace.specs.Points.{count}
 use Rattle.trace.specs.Faults.{Accepted}
-use Rattle.trace.specs.Pair.{Pair}
+use Rattle.strip.specs.Pair.{Pair}
 use Rattle.trace.specs.Judged.{inRange}
 use Rattle.trace.proofs.PointLaws.{range-within, within-range}
 use Rattle.stack.specs.declared.Layer.{Layer}

@@ -1,7 +1,7 @@
 -- The refusal that a judgement carries. Where it carries none, nothing is refused, and what stands here is not asked for.
 use Rattle.fault.specs.declared.Refusal.{Refusal}
 use Rattle.fault.specs.declared.Fault.the-variants.{Layers, Strip}
-use Rattle.trace.specs.Pair.{at}
+use Rattle.fault.specs.Gates.{at}
 use Rattle.stack.specs.declared.StackJudgement.{StackJudgement}
 use Rattle.stack.specs.declared.StackJudgement.the-variants as stack-is
 use Rattle.stack.specs.declared.StripsJudgement.{StripsJudgement}

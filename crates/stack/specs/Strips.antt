@@ -1,11 +1,12 @@
 -- 01: "a stack's strips one after another, fill their slice exactly; any other length is STRIP at place 0"; else the lowest band
 -- whose own part, cut by the counts, is no strip.
 use mathlib.Core.Path.{_≡_}
-use mathlib.Core.List.{List}
-use Prim.Native.Nat.{ℕ, suc, _+_, _≤_, _<_}
+use mathlib.Core.List.{List, [], _∷_}
+use Prim.Native.Nat.{ℕ, suc, _+_, _-_, _≤_, _<_}
 use lib.ListN.{length, take, drop}
 use Rattle.fault.specs.declared.Fault.the-variants.{Strip}
-use Rattle.trace.specs.Pair.{at}
+use Rattle.fault.specs.declared.Refusal.{Refusal}
+use Rattle.fault.specs.Gates.{at, Gate, unless, Placed, Stopped}
 use Rattle.strip.specs.Bytes.{IsStrip}
 use Rattle.stack.specs.declared.Layer.{Layer}
 use Rattle.stack.specs.declared.StripsJudgement.{StripsJudgement}
@@ -28,10 +29,12 @@ pub record StripsRight (es : List Layer) (l : List ℕ) : Type 0 where
   pub long : length l ≡ steps es
   pub strips : (k : ℕ) → suc k < length es → BandStrip es l k
 
+-- STRIP at 0 for another length; else at the lowest band at fault
+abbrev pub stripsGates : List Layer → List ℕ → List Gate
+stripsGates es l = unless Strip (length l ≡ steps es) ∷ Placed Strip (BandFault es l) (length es - 1) ∷ []
+
 pub data StripsJudged (es : List Layer) (l : List ℕ) : StripsJudgement → Type 0 where
-  wrong : (length l ≡ steps es → ⊥) → StripsJudged es l (Refused (at Strip 0))
-  band : {k : ℕ} → length l ≡ steps es → suc k < length es → BandFault es l k → ((j : ℕ) → j < k → BandFault es l j → ⊥)
-      → StripsJudged es l (Refused (at Strip k))
+  refused : {r : Refusal} → Stopped (stripsGates es l) r → StripsJudged es l (Refused r)
   whole : StripsRight es l → StripsJudged es l Whole
 
 -- what is answered for any number of layers: of over 20 the entries are not all handed in, so nothing but their number counts

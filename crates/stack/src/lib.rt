@@ -5,8 +5,7 @@ ghost use Prim.Native.Nat.{ℕ, suc, _+_, _-_, _*_, _/_, _%_, _≤_, _<_, min};
 ghost use lib.ListN.{length};
 ghost use Rattle.whole.specs.Lowest.{Sought, FirstPlace};
 ghost use Rattle.whole.specs.Tells.{Tells};
-ghost use Rattle.trace.specs.Judged.{judged};
-ghost use Rattle.trace.specs.Faults.{Accepted};
+ghost use Rattle.trace.specs.Faults.{Accepted, Given};
 ghost use Rattle.strip.specs.Bytes.{IsStrip};
 ghost use Rattle.stack.specs.declared.Layer.{Layer};
 ghost use Rattle.stack.specs.Entries.{noLayer, entry, traceOf, stop, start, steps, bandStart};
@@ -211,7 +210,7 @@ fn first_break(stack: Stack, coords: &[i32]) -> usize
 
 // The judgement of the trace of layer `k`, which is lent as a part of the list.
 fn judge_layer(stack: Stack, coords: &[i32], k: usize) -> Judgement
-    ensures { λ r. ⌜ r ≡ judged (traceOf (now (coords .entry)) (entry (laid stack) k)) ⌝ }
+    ensures { λ r. ⌜ Given (traceOf (now (coords .entry)) (entry (laid stack) k)) r ⌝ }
 {
     trace::judge(trace_of(coords, layer_at(stack, k)))
 }

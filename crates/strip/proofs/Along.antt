@@ -18,14 +18,16 @@ use Rattle.ways.specs.Value.{Worths, value, valueFrom}
 use Rattle.ways.proofs.Way.{steps-append, steps-length}
 use Rattle.ways.proofs.Greatest.{value-snocA, value-snocB}
 use Rattle.trace.specs.Points.{count}
-use Rattle.trace.specs.Pair.{at, PairCounts}
+use Rattle.fault.specs.Gates.{at}
+use Rattle.strip.specs.Pair.{PairCounts}
 use Rattle.fault.specs.declared.Fault.the-variants.{Strip as NoStrip}
 use Rattle.strip.specs.declared.Walked.{Walked}
 use Rattle.strip.specs.declared.Valued.{Valued}
 use Rattle.strip.specs.declared.Valued.the-variants.{Value, Refused}
 use Rattle.strip.specs.Worth.{worths}
 use Rattle.strip.specs.Bytes.{byteOf, bytes, IsStrip}
-use Rattle.strip.specs.Judging.{StripJudged, other, strip}
+use Rattle.strip.specs.Judging.{StripJudged}
+use Rattle.strip.proofs.JudgingLaws.{other, strip}
 use Rattle.strip.specs.Walk.{worthOf, Ready, Room, By, Stepped, by, full, over, lost, Alive, Along, answered}
 use Rattle.strip.proofs.BytesLaws.{bytes-length, is-strip-length, Goes, goes-on, numbers-exactly}
 use Rattle.strip.proofs.ValueLaws.{value-within}

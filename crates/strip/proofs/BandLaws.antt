@@ -9,7 +9,7 @@ use Rattle.whole.proofs.Linear.{zsum, znat}
 use Rattle.whole.proofs.Bounds.{between-sum, between-mul}
 use Rattle.ways.specs.Strip.{Step, Strip}
 use Rattle.trace.specs.Points.{count, twiceArea}
-use Rattle.trace.specs.Pair.{Pair}
+use Rattle.strip.specs.Pair.{Pair}
 use Rattle.trace.proofs.PointLaws.{area-within}
 use Rattle.strip.specs.Worth.{W, partA}
 use Rattle.strip.specs.Band.{bandSix}

@@ -12,7 +12,7 @@ use Rattle.whole.specs.Between.{Within}
 use Rattle.whole.proofs.Machine.{Holds, held, from, plus}
 use Rattle.ways.specs.Strip.{A, B, stepsA, stepsB}
 use Rattle.trace.specs.Faults.{Accepted}
-use Rattle.trace.specs.Pair.{Pair, PairCounts}
+use Rattle.strip.specs.Pair.{Pair, PairCounts}
 use Rattle.trace.proofs.PointLaws.{accepted-x, accepted-y}
 use Rattle.strip.specs.declared.Point.{Point}
 use Rattle.strip.specs.declared.Walked.{Walked}

@@ -12,7 +12,7 @@ use Rattle.ways.specs.Strip.{Step, A, B, Strip}
 use Rattle.ways.specs.Value.{valueFrom}
 use Rattle.ways.proofs.Greatest.{strip-length}
 use Rattle.trace.specs.Points.{count}
-use Rattle.trace.specs.Pair.{Pair}
+use Rattle.strip.specs.Pair.{Pair}
 use Rattle.strip.specs.Worth.{worths, W}
 use Rattle.strip.proofs.WorthLaws.{worthA-within, worthB-within}
 

@@ -7,7 +7,7 @@ use lib.IntN.{ℤ, _-ℤ_, _*ℤ_}
 use Rattle.whole.specs.Between.{Within}
 use Rattle.whole.proofs.Bounds.{between-sub, between-mul}
 use Rattle.trace.specs.Faults.{Accepted}
-use Rattle.trace.specs.Pair.{Pair}
+use Rattle.strip.specs.Pair.{Pair}
 use Rattle.trace.proofs.PointLaws.{accepted-x, accepted-y}
 use Rattle.strip.specs.Worth.{worthA, worthB}
 

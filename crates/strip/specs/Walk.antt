@@ -10,7 +10,8 @@ use Rattle.fault.specs.declared.Fault.the-variants.{Strip}
 use Rattle.ways.specs.Strip.{Step, A, B, stepsA, stepsB}
 use Rattle.ways.specs.Value.{Worths}
 use Rattle.trace.specs.Points.{count, px, py}
-use Rattle.trace.specs.Pair.{at, PairCounts}
+use Rattle.fault.specs.Gates.{at}
+use Rattle.strip.specs.Pair.{PairCounts}
 use Rattle.strip.specs.declared.Point.{Point}
 use Rattle.strip.specs.declared.Walked.{Walked}
 use Rattle.strip.specs.declared.Valued.{Valued}

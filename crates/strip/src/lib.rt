@@ -4,7 +4,7 @@ ghost use mathlib.Core.Bool.{false};
 ghost use Prim.Native.Nat.{_+_, _*_, _<_};
 ghost use lib.IntN.{pos, _-ℤ_, _*ℤ_};
 ghost use lib.ListN.{length, getD};
-ghost use Rattle.trace.specs.Pair.{PairCounts};
+ghost use Rattle.strip.specs.Pair.{PairCounts};
 ghost use Rattle.strip.specs.Judging.{StripJudged};
 ghost use Rattle.strip.specs.Walk.{Reached, PointIs, Fair, Beside, wayWorth, Ready, Stepped, Along, answered};
 use fault::Fault;

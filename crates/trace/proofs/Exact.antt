@@ -3,7 +3,7 @@
 -- are shown, one by one, to be 01's conditions; the rest is cases. Assumes nothing.
 use mathlib.Core.Path.{_≡_, refl, sym, ap, ap₂, _∙_, subst}
 use mathlib.Core.Bool.{Bool, true, false, not, cond, _&&_}
-use mathlib.Core.Logic.{_↔_}
+use mathlib.Core.Logic.{_↔_, _⊎_, inl, inr}
 use mathlib.Core.List.{List}
 use Prim.Native.Nat.{ℕ, _+_, _%_, _≤_, _<_}
 use native.Mathlib.Omega.{arith}
@@ -17,11 +17,14 @@ use Rattle.whole.specs.Tests.{some, eqZ}
 use Rattle.whole.proofs.Order.{leZ-true, leZ-false, le-leZ, lt-leZ, clash}
 use Rattle.whole.proofs.TestLaws.{true≢false, and-true, eqZ-true, eq-eqZ, some-none, some-at, some-yes, not-true-false}
 use Rattle.fault.specs.declared.Fault.{Fault}
+use Rattle.fault.specs.declared.Refusal.{Refusal}
+use Rattle.fault.specs.Gates.{at, due, Open, Stopped}
+use Rattle.fault.proofs.GateLaws.{not-due}
 use Rattle.fault.specs.declared.Fault.the-variants.{Shape, Few, Many, Range, Twin, Turn}
 use Rattle.trace.specs.declared.Judgement.{Judgement}
 use Rattle.trace.specs.declared.Judgement.the-variants.{Fit, Unfit}
 use Rattle.trace.specs.Points.{count, px, py, twiceArea}
-use Rattle.trace.specs.Faults.{IsShape, IsFew, IsMany, IsRange, IsTwin, IsTurn, Accepted, Given, shape, few, many, range, twin, turn, fit}
+use Rattle.trace.specs.Faults.{IsShape, IsFew, IsMany, IsRange, IsTwin, IsTurn, Accepted, traceGates, Given, unfit, fit}
 use Rattle.trace.specs.Judged.{inRange, outAt, twinAt, verdictOf, judged}
 use Rattle.trace.proofs.PointLaws.{out-within, range-within, within-range}
 
@@ -52,6 +55,27 @@ apart-all : (c : List ℤ) → some (count c) (twinAt c) ≡ false → (k : ℕ)
 unfolding twinAt
 apart-all c e k h p q =
     true≢false (sym (ap₂ _&&_ (eq-eqZ (px c k) (px c (k + 1)) p) (eq-eqZ (py c k) (py c (k + 1)) q)) ∙ some-none (count c) (twinAt c) e k h)
+
+-- ---- the cases, one by one
+
+module _ {c : List ℤ} where
+  shape : IsShape c → Given c (Unfit Shape)
+  shape s = unfit (inl (refl, s))
+
+  few : ¬ IsShape c → IsFew c → Given c (Unfit Few)
+  few ns f = unfit (inr (not-due ns, inl (refl, f)))
+
+  pub many : ¬ IsShape c → ¬ IsFew c → IsMany c → Given c (Unfit Many)
+  many ns nf m = unfit (inr (not-due ns, inr (not-due nf, inl (refl, m))))
+
+  range : ¬ IsShape c → ¬ IsFew c → ¬ IsMany c → IsRange c → Given c (Unfit Range)
+  range ns nf nm r = unfit (inr (not-due ns, inr (not-due nf, inr (not-due nm, inl (refl, r)))))
+
+  twin : ¬ IsShape c → ¬ IsFew c → ¬ IsMany c → ¬ IsRange c → IsTwin c → Given c (Unfit Twin)
+  twin ns nf nm nr w = unfit (inr (not-due ns, inr (not-due nf, inr (not-due nm, inr (not-due nr, inl (refl, w))))))
+
+  turn : ¬ IsShape c → ¬ IsFew c → ¬ IsMany c → ¬ IsRange c → ¬ IsTwin c → IsTurn c → Given c (Unfit Turn)
+  turn ns nf nm nr nw t = unfit (inr (not-due ns, inr (not-due nf, inr (not-due nm, inr (not-due nr, inr (not-due nw, inl (refl, t)))))))
 
 -- ---- from the computation to 01's cases
 
@@ -101,6 +125,9 @@ judged-given c = go (eqb (length c % 2) 1) refl (ltb (count c) 3) refl (ltb 250 
 
 -- ---- from 01's cases to the computation
 
+named : {f g : Fault} → at f 0 ≡ at g 0 → Unfit f ≡ Unfit g
+named e = ap (λ (r : Refusal). Unfit (r .fault)) e
+
 no-shape : {c : List ℤ} → ¬ IsShape c → eqb (length c % 2) 1 ≡ false
 no-shape {c} n = ne-eqb (length c % 2) 1 (λ e. n (record { odd = e }))
 
@@ -147,15 +174,30 @@ accepted-faultless {c} a = record {
   noTurn = λ r. clash (a .turns) (r .turn);
 }
 
+-- a gate that is open says that its fault is not there
+absent : {f : Fault} {P : Type 0} → Open (due f 0 P) → ¬ P
+absent {f} o x = o (at f 0) (refl, x)
+
+-- the fault of the first gate that stops is the one that is computed
+stopped-judged : {c : List ℤ} (f : Fault) → Stopped (traceGates c) (at f 0) → Unfit f ≡ judged c
+unfolding judged verdictOf
+stopped-judged {c} f (inl x) = named (x .0) ∙ rw (eq-eqb (length c % 2) 1 (x .1 .odd))
+stopped-judged {c} f (inr (ns, inl x)) = named (x .0) ∙ rw (no-shape (absent ns), lt-ltb (count c) 3 (x .1 .few))
+stopped-judged {c} f (inr (ns, inr (nf, inl x))) =
+    named (x .0) ∙ rw (no-shape (absent ns), no-few (absent nf), lt-ltb 250 (count c) (x .1 .many))
+stopped-judged {c} f (inr (ns, inr (nf, inr (nm, inl x)))) =
+    named (x .0) ∙ rw (no-shape (absent ns), no-few (absent nf), no-many (absent nm), range-yes (x .1))
+stopped-judged {c} f (inr (ns, inr (nf, inr (nm, inr (nr, inl x))))) =
+    named (x .0) ∙ rw (no-shape (absent ns), no-few (absent nf), no-many (absent nm), no-range (absent nr), twin-yes (x .1))
+stopped-judged {c} f (inr (ns, inr (nf, inr (nm, inr (nr, inr (nw, inl x)))))) =
+    named (x .0)
+    ∙ rw (no-shape (absent ns), no-few (absent nf), no-many (absent nm), no-range (absent nr), no-twin (absent nw), le-leZ (x .1 .turn))
+stopped-judged {c} f (inr (ns, inr (nf, inr (nm, inr (nr, inr (nw, inr (nt, x))))))) = absurd x
+
 -- what 01 gives is the judgement that is computed
 pub given-judged : {c : List ℤ} {r : Judgement} → Given c r → r ≡ judged c
 unfolding judged verdictOf
-given-judged {c} (shape s) = rw (eq-eqb (length c % 2) 1 (s .odd))
-given-judged {c} (few ns f) = rw (no-shape ns, lt-ltb (count c) 3 (f .few))
-given-judged {c} (many ns nf m) = rw (no-shape ns, no-few nf, lt-ltb 250 (count c) (m .many))
-given-judged {c} (range ns nf nm r) = rw (no-shape ns, no-few nf, no-many nm, range-yes r)
-given-judged {c} (twin ns nf nm nr w) = rw (no-shape ns, no-few nf, no-many nm, no-range nr, twin-yes w)
-given-judged {c} (turn ns nf nm nr nw t) = rw (no-shape ns, no-few nf, no-many nm, no-range nr, no-twin nw, le-leZ (t .turn))
+given-judged {c} (unfit {f} s) = stopped-judged f s
 given-judged {c} (fit a) =
     let f : Faultless c = accepted-faultless a in
     rw (no-shape (f .noShape), no-few (f .noFew), no-many (f .noMany), no-range (f .noRange), no-twin (f .noTwin), lt-leZ (a .turns))
@@ -166,45 +208,22 @@ given-judged {c} (fit a) =
 pub judgement-unique : {c : List ℤ} {r s : Judgement} → Given c r → Given c s → r ≡ s
 judgement-unique p q = given-judged p ∙ sym (given-judged q)
 
-given-of : {c : List ℤ} {r : Judgement} → judged c ≡ r → Given c r
+pub given-of : {c : List ℤ} {r : Judgement} → judged c ≡ r → Given c r
 given-of {c} e = subst (Given c) e (judged-given c)
 
-pub shape-exactly : (c : List ℤ) → (judged c ≡ Unfit Shape) ↔ IsShape c
-shape-exactly c = (λ e. take (given-of e), λ s. sym (given-judged (shape s)))
-  where
-    take : Given c (Unfit Shape) → IsShape c
-    take (shape s) = s
+pub as-computed : {c : List ℤ} {r : Judgement} → r ≡ judged c → Given c r
+as-computed e = given-of (sym e)
 
-pub few-exactly : (c : List ℤ) → (judged c ≡ Unfit Few) ↔ (¬ IsShape c × IsFew c)
-few-exactly c = (λ e. take (given-of e), λ s. sym (given-judged (few (s .0) (s .1))))
+-- a fault is given exactly when its gate is the first that stops
+pub unfit-exactly : (c : List ℤ) (f : Fault) → Given c (Unfit f) ↔ Stopped (traceGates c) (at f 0)
+unfit-exactly c f = (take, unfit)
   where
-    take : Given c (Unfit Few) → ¬ IsShape c × IsFew c
-    take (few ns f) = (ns, f)
+    take : Given c (Unfit f) → Stopped (traceGates c) (at f 0)
+    take (unfit s) = s
 
-pub many-exactly : (c : List ℤ) → (judged c ≡ Unfit Many) ↔ (¬ IsShape c × ¬ IsFew c × IsMany c)
-many-exactly c = (λ e. take (given-of e), λ s. sym (given-judged (many (s .0) (s .1) (s .2))))
-  where
-    take : Given c (Unfit Many) → ¬ IsShape c × ¬ IsFew c × IsMany c
-    take (many ns nf m) = (ns, nf, m)
-
-pub range-exactly : (c : List ℤ) → (judged c ≡ Unfit Range) ↔ (¬ IsShape c × ¬ IsFew c × ¬ IsMany c × IsRange c)
-range-exactly c = (λ e. take (given-of e), λ s. sym (given-judged (range (s .0) (s .1) (s .2) (s .3))))
-  where
-    take : Given c (Unfit Range) → ¬ IsShape c × ¬ IsFew c × ¬ IsMany c × IsRange c
-    take (range ns nf nm r) = (ns, nf, nm, r)
-
-pub twin-exactly : (c : List ℤ) → (judged c ≡ Unfit Twin) ↔ (¬ IsShape c × ¬ IsFew c × ¬ IsMany c × ¬ IsRange c × IsTwin c)
-twin-exactly c = (λ e. take (given-of e), λ s. sym (given-judged (twin (s .0) (s .1) (s .2) (s .3) (s .4))))
-  where
-    take : Given c (Unfit Twin) → ¬ IsShape c × ¬ IsFew c × ¬ IsMany c × ¬ IsRange c × IsTwin c
-    take (twin ns nf nm nr w) = (ns, nf, nm, nr, w)
-
-pub turn-exactly : (c : List ℤ)
-    → (judged c ≡ Unfit Turn) ↔ (¬ IsShape c × ¬ IsFew c × ¬ IsMany c × ¬ IsRange c × ¬ IsTwin c × IsTurn c)
-turn-exactly c = (λ e. take (given-of e), λ s. sym (given-judged (turn (s .0) (s .1) (s .2) (s .3) (s .4) (s .5))))
-  where
-    take : Given c (Unfit Turn) → ¬ IsShape c × ¬ IsFew c × ¬ IsMany c × ¬ IsRange c × ¬ IsTwin c × IsTurn c
-    take (turn ns nf nm nr nw t) = (ns, nf, nm, nr, nw, t)
+-- every trace is given one
+pub given-some : (c : List ℤ) → (r : Judgement) × Given c r
+given-some c = (judged c, judged-given c)
 
 -- "fit" exactly when none holds, with that area and count
 pub fit-exactly : (c : List ℤ) (area : ℤ) (n : ℕ)
@@ -212,14 +231,6 @@ pub fit-exactly : (c : List ℤ) (area : ℤ) (n : ℕ)
 fit-exactly c area n =
     (λ e. take (judged-given c) (sym e), λ s. sym (given-judged (fit (s .0))) ∙ ap₂ Fit (sym (s .1)) (sym (s .2)))
   where
-    other : (f : Fault) → Fit area n ≡ Unfit f → ⊥
-    other f e = let z : _≡_ {A = ℕ} 0 1 = cc in omega arith
-
     take : {r : Judgement} → Given c r → Fit area n ≡ r → Accepted c × (area ≡ twiceArea c) × (n ≡ count c)
-    take (shape _) e = absurd (other Shape e)
-    take (few _ _) e = absurd (other Few e)
-    take (many _ _ _) e = absurd (other Many e)
-    take (range _ _ _ _) e = absurd (other Range e)
-    take (twin _ _ _ _ _) e = absurd (other Twin e)
-    take (turn _ _ _ _ _ _) e = absurd (other Turn e)
+    take (unfit {f} s) e = absurd (let z : _≡_ {A = ℕ} 0 1 = cc in omega arith)
     take (fit a) e = (a, cc, cc)

@@ -1,5 +1,4 @@
 -- Laws of one trace for the crates above, and the theorems on its judgement (Exact).
 pub mod PointLaws
 pub mod Exact
-pub mod PairLaws
 mod Along

@@ -1,11 +1,13 @@
 -- 01, "What comes back": when each of the six faults of a trace is given.
 use mathlib.Core.Path.{_≡_}
-use mathlib.Core.List.{List}
+use mathlib.Core.List.{List, [], _∷_}
 use Prim.Native.Nat.{ℕ, _+_, _%_, _≤_, _<_}
 use lib.ListN.{length, getD}
 use lib.IntN.{ℤ, pos}
 use lib.Signed.{_≤ℤ_, _<ℤ_}
 use Rattle.whole.specs.Between.{Within}
+use Rattle.fault.specs.declared.Fault.{Fault}
+use Rattle.fault.specs.Gates.{at, Gate, due, Stopped}
 use Rattle.fault.specs.declared.Fault.the-variants.{Shape, Few, Many, Range, Twin, Turn}
 use Rattle.trace.specs.declared.Judgement.{Judgement}
 use Rattle.trace.specs.declared.Judgement.the-variants.{Fit, Unfit}
@@ -50,12 +52,13 @@ pub record Accepted (c : List ℤ) : Type 0 where
   pub apart : (k : ℕ) → k < count c → px c k ≡ px c (k + 1) → py c k ≡ py c (k + 1) → ⊥
   pub turns : pos 0 <ℤ twiceArea c
 
--- 01's order: each fault is given exactly when it is there and no earlier one is, and "fit" when none is
+-- 01's order, 1 to 6; a trace that is judged alone has place 0
+abbrev pub traceGates : List ℤ → List Gate
+traceGates c =
+    due Shape 0 (IsShape c) ∷ due Few 0 (IsFew c) ∷ due Many 0 (IsMany c) ∷ due Range 0 (IsRange c) ∷ due Twin 0 (IsTwin c)
+    ∷ due Turn 0 (IsTurn c) ∷ []
+
+-- each fault is given exactly when it is there and no earlier one is, and "fit" when none is
 pub data Given (c : List ℤ) : Judgement → Type 0 where
-  shape : IsShape c → Given c (Unfit Shape)
-  few : ¬ IsShape c → IsFew c → Given c (Unfit Few)
-  many : ¬ IsShape c → ¬ IsFew c → IsMany c → Given c (Unfit Many)
-  range : ¬ IsShape c → ¬ IsFew c → ¬ IsMany c → IsRange c → Given c (Unfit Range)
-  twin : ¬ IsShape c → ¬ IsFew c → ¬ IsMany c → ¬ IsRange c → IsTwin c → Given c (Unfit Twin)
-  turn : ¬ IsShape c → ¬ IsFew c → ¬ IsMany c → ¬ IsRange c → ¬ IsTwin c → IsTurn c → Given c (Unfit Turn)
+  unfit : {f : Fault} → Stopped (traceGates c) (at f 0) → Given c (Unfit f)
   fit : Accepted c → Given c (Fit (twiceArea c) (count c))

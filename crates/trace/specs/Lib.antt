@@ -3,4 +3,4 @@ pub mod Points
 pub mod Faults
 pub mod Judged
 pub mod Walk
-pub mod Pair
+pub mod Refused

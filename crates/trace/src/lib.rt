@@ -4,8 +4,9 @@ ghost use mathlib.Core.Bool.{true, false};
 ghost use Prim.Native.Nat.{_+_, _*_, _≤_, _<_};
 ghost use lib.IntN.{pos};
 ghost use lib.ListN.{length, getD};
+ghost use Rattle.trace.specs.Faults.{Given};
 ghost use Rattle.trace.specs.Judged.{judged, inRange, verdictOf};
-ghost use Rattle.trace.specs.Pair.{refusalOf};
+ghost use Rattle.trace.specs.Refused.{refusalOf};
 ghost use Rattle.trace.specs.Walk.{inside, samePoint, Ready, WalkedOn};
 use fault::Fault;
 use fault::Refusal;
@@ -19,7 +20,7 @@ pub enum Judgement {
 
 // Takes every slice. A trace of over 250 points is refused without being read; any other is read once.
 pub fn judge(coords: &[i32]) -> Judgement
-    ensures { λ r. ⌜ r ≡ judged (now (coords .entry)) ⌝ }
+    ensures { λ r. ⌜ Given (now (coords .entry)) r ⌝ }
 {
     let count = coords.len() / 2;
     if coords.len() % 2 == 1 {

@@ -2,8 +2,8 @@
 use native.Mathlib.Omega.{arith}
 use Rattle.stack.specs.Laid.{laid}
 use Rattle.stack.proofs.Told.{stack-refused}
-use Rattle.bands.specs.Bands.{EnoughRoom, stack}
-use Rattle.bands.proofs.AnswerLaws.{accepted, sized, enough, no-strips, no-work, answered}
+use Rattle.bands.specs.Bands.{EnoughRoom}
+use Rattle.bands.proofs.AnswerLaws.{stack, accepted, sized, enough, no-strips, no-work, answered}
 use borrow.Author.Needs.{needs}
 use Rattle.bands.proofs.best_strips.Statement.{statement}
 use Rattle.bands.proofs.best_strips.Tie as tie

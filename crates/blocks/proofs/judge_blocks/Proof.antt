@@ -5,7 +5,8 @@ use native.Mathlib.Omega.{arith}
 use lib.ListN.{length}
 use borrow.Author.Needs.{needs}
 use Rattle.whole.proofs.Telling.{sought-lowest, sought-none}
-use Rattle.blocks.specs.Faults.{BlocksJudged, block, check, sound}
+use Rattle.blocks.specs.Faults.{BlocksJudged, sound}
+use Rattle.blocks.proofs.Cases.{block, check}
 use Rattle.blocks.proofs.judge_blocks.Statement.{statement}
 use Rattle.blocks.proofs.judge_blocks.Tie as tie
 

@@ -3,7 +3,8 @@ use mathlib.Core.Path.{sym, subst}
 use native.Mathlib.Omega.{arith}
 use borrow.Author.Needs.{needs}
 use Rattle.blocks.specs.Blocks.{blocksFor}
-use Rattle.blocks.specs.Faults.{SealAnswer, block, room}
+use Rattle.blocks.specs.Faults.{SealAnswer}
+use Rattle.blocks.proofs.Cases.{no-blocks, room}
 use Rattle.blocks.proofs.SealLaws.{seal-sealed}
 use Rattle.blocks.proofs.seal.Statement.{statement}
 use Rattle.blocks.proofs.seal.Tie as tie
@@ -13,14 +14,14 @@ not-sealed-requires c κs = search needs
 
 returns : tie.Need-returns
 unfolding blocksFor
-returns c = subst (SealAnswer _ _ _) (sym (c .not-sealed .ensures)) (block (λ some few. omega arith))
+returns c = subst (SealAnswer _ _ _) (sym (c .not-sealed .ensures)) (no-blocks (λ some few. omega arith))
 
 not-sealed-requires-2 : tie.Need-not-sealed-requires-2
 not-sealed-requires-2 c κs = search needs
 
 returns-2 : tie.Need-returns-2
 unfolding blocksFor
-returns-2 c = subst (SealAnswer _ _ _) (sym (c .not-sealed2 .ensures)) (block (λ some few. omega arith))
+returns-2 c = subst (SealAnswer _ _ _) (sym (c .not-sealed2 .ensures)) (no-blocks (λ some few. omega arith))
 
 add-blocks : tie.Need-add-blocks
 add-blocks c = search needs

@@ -23,12 +23,24 @@ number-requires : tie.Need-number-requires
 number-requires c κs = search needs
 
 returns : tie.Need-returns
-returns c =
-    ap (λ (z : ℤ). judgedAs (Fit z (c .before .area .given .0 .1 .0))) (read-back w64 (c .before .area .given .0 .0) (c .known-told .given .0 .1)) ∙ sym (ap judgedAs (c .before .area .given .1)) ∙ ap judgedAs (c .before .before .before .judge .ensures)
+returns c = (
+  c .before .before .before .judge .result,
+  (
+    c .before .before .before .judge .ensures,
+    ap (λ (z : ℤ). judgedAs (Fit z (c .before .area .given .0 .1 .0))) (read-back w64 (c .before .area .given .0 .0) (c .known-told .given .0 .1))
+        ∙ sym (ap judgedAs (c .before .area .given .1)),
+  ),
+)
 
 returns-2 : tie.Need-returns-2
-returns-2 c =
-    ap (λ (k : ℕ). record { number = k; place = 0; area = pos 0; count = 0 }) (c .number .ensures) ∙ sym (ap judgedAs (c .before .before .fault .given .1)) ∙ ap judgedAs (c .before .before .before .before .judge .ensures)
+returns-2 c = (
+  c .before .before .before .before .judge .result,
+  (
+    c .before .before .before .before .judge .ensures,
+    ap (λ (k : ℕ). record { number = k; place = 0; area = pos 0; count = 0 }) (c .number .ensures)
+        ∙ sym (ap judgedAs (c .before .before .fault .given .1)),
+  ),
+)
 
 pub register-judge-spec : {M : Type 1} → statement M
 register-judge-spec =

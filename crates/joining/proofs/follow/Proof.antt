@@ -8,8 +8,8 @@ use lib.Signed.{ltZ}
 use mir.Syntax.{w64}
 use mir.Val.{toZ, ofZ}
 use Rattle.whole.proofs.Machine.{read-back}
-use Rattle.trace.proofs.PairLaws.{few-points}
-use Rattle.joining.specs.Answers.{noStrip}
+use Rattle.strip.proofs.PairLaws.{few-points}
+use Rattle.joining.proofs.NextCases.{noStrip}
 use Rattle.joining.proofs.CellLaws.{room-needs}
 use Rattle.joining.proofs.RowLaws.{cells-few}
 use Rattle.joining.proofs.OutlineLaws.{filled-is}

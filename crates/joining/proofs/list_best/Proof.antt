@@ -4,9 +4,9 @@ use native.Mathlib.Omega.{arith}
 use lib.ListN.{length}
 use mir.Syntax.{w64}
 use Rattle.whole.proofs.Machine.{read-back}
-use Rattle.trace.specs.Pair.{PairCounts}
-use Rattle.trace.proofs.PairLaws.{Counts, counts, pair-counts, few-points, refuses-lower, refuses-upper}
-use Rattle.joining.specs.Listing.{pair, room}
+use Rattle.strip.specs.Pair.{PairCounts}
+use Rattle.strip.proofs.PairLaws.{Counts, counts, pair-counts, few-points, refuses-lower, refuses-upper}
+use Rattle.joining.proofs.ListCases.{pair, room}
 use Rattle.joining.proofs.CellLaws.{room-needs}
 use Rattle.joining.proofs.RowLaws.{cells-few}
 use Rattle.joining.proofs.OutlineLaws.{filled-is}

@@ -1,9 +1,9 @@
 -- `joining::next` meets its contract: a pair at fault and a slice that is too short are its own cases, all others are `follow`'s. Assumes
 -- nothing.
 use native.Mathlib.Omega.{arith}
-use Rattle.trace.specs.Pair.{PairCounts}
-use Rattle.trace.proofs.PairLaws.{Counts, counts, pair-counts, few-points, refuses-lower, refuses-upper}
-use Rattle.joining.specs.Answers.{pair, room}
+use Rattle.strip.specs.Pair.{PairCounts}
+use Rattle.strip.proofs.PairLaws.{Counts, counts, pair-counts, few-points, refuses-lower, refuses-upper}
+use Rattle.joining.proofs.NextCases.{pair, room}
 use Rattle.joining.proofs.RowLaws.{cells-few}
 use Rattle.joining.proofs.BestLaws.{untouched, short, roomy}
 use Rattle.joining.proofs.FollowLaws.{refused-is}

@@ -3,7 +3,7 @@ use mathlib.Core.Path.{refl}
 use mir.Syntax.{w32}
 use Rattle.whole.proofs.Machine.{read-back}
 use Rattle.fault.specs.declared.Fault.the-variants.{Text}
-use Rattle.trace.specs.Pair.{at}
+use Rattle.fault.specs.Gates.{at}
 use Rattle.listing.specs.Asked.{reads}
 use Rattle.listing.specs.Listing.{refusal, unread, read}
 use Rattle.listing.proofs.ReadLaws.{asked-text, AskedFor, asked-pair}

@@ -8,8 +8,8 @@ use mir.Syntax.{w32, w64}
 use Rattle.whole.specs.Between.{Within}
 use Rattle.whole.proofs.Machine.{held, fits-holds}
 use Rattle.fault.specs.declared.Fault.the-variants.{Planes}
-use Rattle.trace.specs.Pair.{at}
-use Rattle.trace.proofs.PairLaws.{refuses-lower, refuses-upper}
+use Rattle.fault.specs.Gates.{at}
+use Rattle.strip.proofs.PairLaws.{refuses-lower, refuses-upper}
 use Rattle.listing.specs.Listing.{refusal, BestLines, traces, planes, best}
 use Rattle.listing.specs.Telling.{Kept}
 use Rattle.listing.specs.Pairs.{PlanesAnswer}

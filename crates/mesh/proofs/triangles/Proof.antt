@@ -3,7 +3,7 @@ use native.Mathlib.Omega.{arith}
 use Rattle.stack.specs.Laid.{laid}
 use Rattle.stack.proofs.Laying.{laid-gathers}
 use Rattle.stack.proofs.Told.{stack-refused, stack-fit, stack-steps, strips-refused}
-use Rattle.mesh.specs.Meshing as answer
+use Rattle.mesh.proofs.Cases.{list-stack, list-strips}
 use Rattle.mesh.specs.Working.{Fitted, Sized}
 use Rattle.mesh.proofs.ClosedLaws.{drawn}
 use Rattle.mesh.proofs.MeshLaws.{fitted, sized}
@@ -27,7 +27,7 @@ stack-refusal-requires c κs = search needs
 returns : tie.Need-returns
 returns c = λ es g.
     let judged = c .before .before .before .judge-stack .ensures in
-    answer.stack (stack-refused judged (c .before .enum-told .given .1) (c .stack-refusal .ensures) es g)
+    list-stack (stack-refused judged (c .before .enum-told .given .1) (c .stack-refusal .ensures) es g)
 
 -- the stack is accepted
 sized-of : (c : tie.After-known-told) → Sized (c .before .before .before .before .before .before .args .stack)
@@ -67,7 +67,7 @@ returns-3 c = λ es g.
     let out = first .before .before .before .before .before .args .out .now in
     let a = stack-fit (first .before .before .judge-stack .ensures) (first .judged .given .1) es g in
     let judged = c .before .before .before .judge-strips .ensures in
-    answer.strips a (roomy out a g (test .before .triangle-count .ensures) (omega (arith, test .if1 .left)))
+    list-strips a (roomy out a g (test .before .triangle-count .ensures) (omega (arith, test .if1 .left)))
     (strips-refused judged (c .before .enum-told3 .given .1) (c .strips-refusal .ensures) es g a)
 
 -- so are the strips

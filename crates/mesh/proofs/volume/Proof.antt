@@ -1,7 +1,7 @@
 -- `mesh::volume` meets its contract: each `return` is one case of 01's order. Assumes nothing.
 use borrow.Author.Needs.{needs}
 use Rattle.stack.proofs.Told.{stack-refused, stack-fit, strips-refused}
-use Rattle.mesh.specs.Meshing.{stack, strips}
+use Rattle.mesh.proofs.Cases.{stack, strips}
 use Rattle.mesh.specs.Working.{Fitted}
 use Rattle.mesh.proofs.MeshLaws.{fitted, measured}
 use Rattle.mesh.proofs.volume.Statement.{statement}

@@ -11,12 +11,12 @@ use Rattle.stack.specs.Laid.{laid}
 use Rattle.stack.proofs.Laying.{laid-gathers, laid-twenty, for-gathered}
 use Rattle.stack.proofs.Told.{stack-refused, stack-fit, strips-refused, strips-right}
 use Rattle.fault.specs.declared.Fault.the-variants.{Room}
-use Rattle.trace.specs.Pair.{at}
+use Rattle.fault.specs.Gates.{at}
 use Rattle.blocks.specs.Faults.{SealAnswer}
 use Rattle.register.specs.declared.Written.the-variants as written-is
 use Rattle.register.specs.Contents.{contents}
 use Rattle.register.specs.Writing.{fileLong, WriteAnswer}
-use Rattle.register.specs.Writing as answer
+use Rattle.register.proofs.WriteCases as answer
 use Rattle.register.proofs.WriteLaws.{Sized, sized, asked, sized-few, long-few, front, never-unsealed, sealed-as, blocks-told}
 use borrow.Author.Needs.{needs}
 use Rattle.register.proofs.write.Statement.{statement}

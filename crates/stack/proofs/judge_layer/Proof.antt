@@ -1,6 +1,8 @@
 -- `stack::judge_layer` meets its contract: what is lent is the layer's trace. Assumes nothing.
-use mathlib.Core.Path.{ap, _∙_}
-use Rattle.trace.specs.Judged.{judged}
+use mathlib.Core.Path.{ap, _∙_, subst}
+use mathlib.Core.List.{List}
+use lib.IntN.{ℤ}
+use Rattle.trace.specs.Faults.{Given}
 use Rattle.stack.specs.Entries.{traceOf}
 use borrow.Author.Needs.{needs}
 use Rattle.stack.proofs.judge_layer.Statement.{statement}
@@ -18,7 +20,8 @@ judge-requires c κs = search needs
 returns : tie.Need-returns
 returns c =
     let a = c .before .before .before .args in
-    c .judge .ensures ∙ ap judged (c .before .trace-of .ensures ∙ ap (traceOf (a .coords .now)) (c .before .before .layer-at .ensures))
+    subst (λ (t : List ℤ). Given t (c .judge .result))
+    (c .before .trace-of .ensures ∙ ap (traceOf (a .coords .now)) (c .before .before .layer-at .ensures)) (c .judge .ensures)
 
 pub judge-layer-spec : {M : Type 1} → statement M
 judge-layer-spec = tie.close (tie.spec layer-at-requires trace-of-requires judge-requires returns)

@@ -1,7 +1,7 @@
 -- `stack::judge_planes` meets its contract: 19 bands of 500 steps are 9,500, so the sum of all is not cut off. Assumes nothing.
 use native.Mathlib.Omega.{arith}
 use Rattle.whole.proofs.Telling.{sought-lowest, sought-none}
-use Rattle.stack.specs.Faults.{planes}
+use Rattle.stack.proofs.Cases.{planes}
 use Rattle.stack.proofs.Laying.{laid-long, laid-twenty}
 use Rattle.stack.proofs.Judging.{fit-told}
 use Rattle.stack.proofs.judge_planes.Statement.{statement}

@@ -2,7 +2,8 @@
 -- all that the stack gathers. Assumes nothing.
 use native.Mathlib.Omega.{arith}
 use Rattle.whole.proofs.Telling.{sought-lowest, sought-none}
-use Rattle.stack.specs.Faults.{LayersRight, shape, span}
+use Rattle.stack.specs.Faults.{LayersRight}
+use Rattle.stack.proofs.Cases.{shape, span}
 use Rattle.stack.specs.Laid.{laid}
 use Rattle.stack.proofs.Judging.{layers-refused, layers-right}
 use Rattle.stack.proofs.Laying.{laid-long, laid-twenty, for-gathered}

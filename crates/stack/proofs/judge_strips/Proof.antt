@@ -1,7 +1,8 @@
 -- `stack::judge_strips` meets its contract: the total length first, then the lowest band that is no strip. Assumes nothing.
 use native.Mathlib.Omega.{arith}
 use borrow.Author.Needs.{needs}
-use Rattle.stack.specs.Strips.{over, judged, wrong, band, whole}
+use Rattle.stack.specs.Strips.{over, judged, whole}
+use Rattle.stack.proofs.Cases.{wrong, band}
 use Rattle.stack.proofs.Laying.{laid-long, for-gathered}
 use Rattle.stack.proofs.judge_strips.Statement.{statement}
 use Rattle.stack.proofs.judge_strips.Tie as tie

@@ -2,9 +2,9 @@
 -- what is answered is what a walk would answer that has lost its way. Assumes nothing.
 use native.Mathlib.Omega.{arith}
 use borrow.Author.Needs.{needs}
-use Rattle.strip.specs.Judging.{pair}
-use Rattle.trace.specs.Pair.{PairCounts}
-use Rattle.trace.proofs.PairLaws.{Counts, counts, pair-counts, few-points, refuses-lower, refuses-upper}
+use Rattle.strip.proofs.JudgingLaws.{pair}
+use Rattle.strip.specs.Pair.{PairCounts}
+use Rattle.strip.proofs.PairLaws.{Counts, counts, pair-counts, few-points, refuses-lower, refuses-upper}
 use Rattle.strip.proofs.Along.{length-judged, along-judged}
 use Rattle.strip.proofs.judge_strip.Statement.{statement}
 use Rattle.strip.proofs.judge_strip.Tie as tie

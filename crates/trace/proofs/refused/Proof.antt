@@ -2,7 +2,7 @@
 use mathlib.Core.Path.{sym, ap}
 use borrow.Author.Needs.{needs}
 use Rattle.trace.specs.declared.Judgement.{Judgement}
-use Rattle.trace.specs.Pair.{refusalOf}
+use Rattle.trace.specs.Refused.{refusalOf}
 use Rattle.trace.proofs.refused.Statement.{statement}
 use Rattle.trace.proofs.refused.Tie as tie
 
