@@ -5,10 +5,10 @@
 use mathlib.Core.Path.{_≡_, refl, sym, ap, ap₂, _∙_, subst}
 use mathlib.Core.Logic.{_⊎_, inl, inr}
 use mathlib.Core.List.{List, [], _∷_, _++_, map, map-append, append-nil, List·Memᴰ}
-use Prim.Native.Nat.{ℕ, _+_, _^_, _≤_}
+use Prim.Native.Nat.{ℕ, zero, suc, _+_, _^_, _≤_, _<_}
 use native.Mathlib.Omega.{arith}
 use lib.IntN.{ℤ}
-use lib.ListN.{length, take, drop, length-map, length-append}
+use lib.ListN.{length, take, drop, replicate, length-map, length-append, length-replicate}
 use lib.Seq.{take-at}
 use Rattle.fault.proofs.GateLaws.{stopped-not-passed}
 use Rattle.strip.proofs.PairLaws.{open-pair}
@@ -16,7 +16,7 @@ use Rattle.strip.specs.Pair.{Pair}
 use Rattle.ways.specs.Strip.{Step}
 use Rattle.ways.specs.Best.{Onward, end, Listed}
 use Rattle.ways.proofs.Greatest.{strip-length}
-use Rattle.ways.proofs.Complete.{Rising, listed-all, listed-best, listed-order, listed-once, listed-ends}
+use Rattle.ways.proofs.Complete.{listed-all, listed-best, listed-order, listed-once, listed-ends}
 use Rattle.ways.proofs.Runs.{Chain, one, more, chain-onward, onward-head, onward-exists}
 use Rattle.strip.specs.Worth.{W, worths}
 use Rattle.strip.specs.Bytes.{bytes}
@@ -25,11 +25,11 @@ use Rattle.strip.specs.declared.Valued.{Valued}
 use Rattle.strip.specs.declared.Valued.the-variants.{Value}
 use Rattle.joining.specs.declared.Followed.{Followed}
 use Rattle.joining.specs.declared.Followed.the-variants.{Next, NoneLeft}
-use Rattle.joining.specs.Answers.{Between, BestOf, FirstOf, NextOf, NoneLeftOf, HandedIn, HandedBest, stripBytes, Enough, Given, bestGates, nextGates, BestAnswer, best, NextAnswer, next, noneLeft}
+use Rattle.joining.specs.Answers.{Between, BestOf, FirstOf, NextOf, NoneLeftOf, HandedIn, HandedBest, stripBytes, workBytes, Enough, Given, Cleared, bestGates, nextGates, BestAnswer, best, NextAnswer, next, noneLeft}
 use Rattle.joining.specs.Answers as Answers
 use Rattle.joining.proofs.BestCases.{best-passed}
 use Rattle.joining.proofs.NextCases.{next-passed}
-use Rattle.joining.specs.Calls.{shown, Going, begun, went, Ended, ended}
+use Rattle.joining.specs.Calls.{shown, Going, begun, went, Ended, ended, Whole, Program}
 
 -- ---- the calls are a chain
 
@@ -43,15 +43,6 @@ record Chained (a b : List ℤ) (l : List (List ℕ)) (last : List ℕ) : Type 0
   best : BestOf a b final
   all : l ≡ map bytes strips
   final-shown : last ≡ bytes final
-
--- "every strip of greatest value comes up once, in the stated order, and no other does"
-pub record Whole (a b : List ℤ) (l : List (List ℕ)) : Type 0 where
-  pub strips : List (List Step)
-  pub shows : l ≡ map bytes strips
-  pub all : (s : List Step) → BestOf a b s → List·Memᴰ s strips
-  pub only : (s : List Step) → List·Memᴰ s strips → BestOf a b s
-  pub order : Rising strips
-  pub once : (s : List Step) (x y : List (List Step)) → strips ≡ x ++ s ∷ y → List·Memᴰ s (x ++ y) → ⊥
 
 module _ (a b : List ℤ) where
   shown-given : {s : List Step} {strip strip′ : List ℕ} → Between a b s → Given a b s strip strip′ → shown a b strip′ ≡ bytes s
@@ -124,6 +115,12 @@ module _ (a b : List ℤ) where
       let k = listed-ends (λ t. strip-length) listed in
       omega (arith, ap length (c .all), length-map (c .strips) bytes, length-append (c .strips) (head .0))
 
+  -- the strip that was given last is a best one where it is handed in
+  handed-last : {l : List (List ℕ)} {last strip : List ℕ} → Going a b l last → shown a b strip ≡ last → HandedBest a b strip
+  handed-last going back =
+      let c = chained going in
+      record { handed = record { steps = c .final; written = back ∙ c .final-shown; strip = c .best .is }; best = c .best }
+
   -- They begin: two accepted traces with room have a first best strip.
   pub calls-begin : {strip work strip′ work′ : List ℕ} {r : Valued} → Pair a b → Enough a b strip work
       → BestAnswer a b strip work strip′ work′ r → (v : ℤ) × (r ≡ Value v)
@@ -135,11 +132,67 @@ module _ (a b : List ℤ) where
   pub calls-go-on : {l : List (List ℕ)} {last strip work strip′ work′ : List ℕ} {r : Followed} → Going a b l last → shown a b strip ≡ last
       → Enough a b strip work → NextAnswer a b strip work strip′ work′ r → ((v : ℤ) × (r ≡ Next v)) ⊎ (r ≡ NoneLeft)
   calls-go-on {strip = strip} {work = work} going back room (Answers.NextAnswer.refused {r = r} x u) =
-      let c = chained going in
-      let h : HandedBest a b strip = record {
-        handed = record { steps = c .final; written = back ∙ c .final-shown; strip = c .best .is };
-        best = c .best;
-      } in
-      absurd (stopped-not-passed (nextGates a b strip work) r x (next-passed (c .pair) room h))
+      absurd (stopped-not-passed (nextGates a b strip work) r x (next-passed (chained going .pair) room (handed-last going back)))
   calls-go-on going back room (next p s t f g c) = inl (W a b t, refl)
   calls-go-on going back room (noneLeft p s f k c) = inr refl
+
+  -- Calls that were stopped early gave the beginning of the whole list.
+  pub calls-begin-the-list : {l : List (List ℕ)} {last : List ℕ} → Going a b l last → (rest : List (List ℕ)) × Whole a b (l ++ rest)
+  calls-begin-the-list going =
+      let c = chained going in
+      let on = onward-exists (worths a b) (c .best) in
+      let head = onward-head (on .1) in
+      let listed = onward-listed c (head .0) (subst (Onward (Between a b) (W a b) (c .final)) (head .1) (on .1)) in (
+        map bytes (head .0),
+        record {
+          strips = c .strips ++ head .0;
+          shows = ap (λ (x : List (List ℕ)). x ++ map bytes (head .0)) (c .all) ∙ sym (map-append bytes (c .strips) (head .0));
+          all = λ s b. listed-all listed b;
+          only = λ s m. listed-best listed m;
+          order = listed-order listed;
+          once = λ s x y. listed-once (listed-order listed) x y;
+        },
+      )
+
+  -- ---- the calls reach the end
+
+  -- what `next` gives back has the room that it was lent
+  given-room : {t : List Step} {strip strip′ work work′ : List ℕ} → Between a b t → Enough a b strip work → Given a b t strip strip′
+      → Cleared a b work work′ → Enough a b strip′ work′
+  given-room {t} {strip} {strip′} {work} {work′} i e g c = record {
+    forStrip = omega (arith, ap length (g .front), length-append (bytes t) (drop (stripBytes a b) strip), bytes-length t, strip-length i);
+    forWork = omega (arith, ap length (c .zeros), length-append (replicate {A = ℕ} (workBytes a b) 0) (drop (workBytes a b) work), length-replicate {A = ℕ} (workBytes a b) 0);
+  }
+
+  module _ (p : Program a b) where
+    -- one call more, or the end
+    onward : {l : List (List ℕ)} {last strip work : List ℕ} → Going a b l last → shown a b strip ≡ last → Enough a b strip work
+        → {strip′ work′ : List ℕ} {r : Followed} → NextAnswer a b strip work strip′ work′ r
+        → Ended a b l ⊎ ((Going a b (l ++ shown a b strip′ ∷ []) (shown a b strip′)) × Enough a b strip′ work′)
+    onward {strip = strip} {work = work} going back room (Answers.NextAnswer.refused {r = r} x u) =
+        absurd (stopped-not-passed (nextGates a b strip work) r x (next-passed (chained going .pair) room (handed-last going back)))
+    onward going back room (next q s t f g c) = inr (went going back (next q s t f g c), given-room (f .best .is) room g c)
+    onward going back room (noneLeft q s f k c) = inl (ended going back (noneLeft q s f k c))
+
+    reach : (fuel : ℕ) {l : List (List ℕ)} {last strip work : List ℕ} → Going a b l last → shown a b strip ≡ last → Enough a b strip work
+        → 2 ^ stripBytes a b < length l + fuel → (l′ : List (List ℕ)) × Ended a b l′
+    reach zero going back room h = absurd (omega (arith, calls-end going))
+    reach (suc fuel) {l} {last} {strip} {work} going back room h =
+        go (λ g room′ k. reach fuel g refl room′ k) (onward going back room (p .meets strip work))
+      where
+        new : List ℕ
+        new = shown a b (p .stripAfter strip work)
+
+        go : (Going a b (l ++ new ∷ []) new → Enough a b (p .stripAfter strip work) (p .workAfter strip work)
+            → 2 ^ stripBytes a b < length (l ++ new ∷ []) + fuel → (l′ : List (List ℕ)) × Ended a b l′)
+            → Ended a b l ⊎ ((Going a b (l ++ new ∷ []) new) × Enough a b (p .stripAfter strip work) (p .workAfter strip work))
+            → (l′ : List (List ℕ)) × Ended a b l′
+        go later (inl e) = (l, e)
+        go later (inr (g, room′)) = later g room′ (omega (arith, length-append l (new ∷ [])))
+
+    -- Begun with what `best` gave, the calls of any program that meets `next`'s contract reach "none left", and list all.
+    pub calls-reach-the-end : {strip work strip′ work′ : List ℕ} {v : ℤ} → Enough a b strip work
+        → BestAnswer a b strip work strip′ work′ (Value v) → (l : List (List ℕ)) × (Ended a b l × Whole a b l)
+    calls-reach-the-end room (best q s f g c) =
+        let e = reach (2 ^ stripBytes a b) (begun (best q s f g c)) refl (given-room (f .best .is) room g c) (omega arith) in
+        (e .0, (e .1, calls-list (e .1)))

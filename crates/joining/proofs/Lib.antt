@@ -17,4 +17,5 @@ pub mod LineLaws
 pub mod RunLaws
 pub mod ListLaws
 pub mod Demand
+pub mod Requests
 pub mod Exact

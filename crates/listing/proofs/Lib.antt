@@ -16,6 +16,7 @@ pub mod PlaneLaws
 pub mod ListLaws
 pub mod TellLaws
 pub mod Exact
+pub mod Cases
 pub mod RoundTrip
 pub mod Unique
 pub mod ReadLaws

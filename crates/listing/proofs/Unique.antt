@@ -11,8 +11,10 @@ use lib.Signed.{quotZ}
 use Rattle.whole.proofs.Order.{clash}
 use Rattle.fault.specs.declared.Fault.the-variants.{Planes}
 use Rattle.trace.specs.Points.{twiceArea}
-use Rattle.fault.specs.Gates.{at}
-use Rattle.strip.proofs.PairLaws.{pair-refused-unique, refused-not-pair}
+use Rattle.fault.specs.Gates.{at, Passed}
+use Rattle.fault.proofs.GateLaws.{Single, one-stop, stopped-not-passed}
+use Rattle.strip.specs.Pair.{Pair}
+use Rattle.strip.proofs.PairLaws.{traces-single, traces-open}
 use Rattle.ways.specs.Strip.{Step}
 use Rattle.ways.proofs.Unique.{best-same}
 use Rattle.strip.specs.Worth.{W}
@@ -23,8 +25,8 @@ use Rattle.listing.specs.declared.Listed.the-variants.{Bytes}
 use Rattle.listing.specs.Asked as Asked
 use Rattle.listing.specs.Lines.{valueLine, stripLines}
 use Rattle.listing.specs.Pairs.{PlanesWrong, low, high, fall, PlanesRise}
-use Rattle.listing.specs.Listing.{refusal, lastLine, BestLines, lines, PairListing, traces, planes, best, Listing, unread, read, ListingAnswer, room, written}
-use Rattle.listing.proofs.Exact.{no-pair}
+use Rattle.listing.specs.Listing.{refusal, lastLine, BestLines, lines, PlanesRefused, pairGates, PairListing, refused, best, Listing, unread, read, ListingAnswer, room, written}
+use Rattle.listing.proofs.Exact.{pair-exactly}
 
 -- ---- the planes
 
@@ -57,15 +59,17 @@ best-lines-unique {h} {a} {b} (lines {more = m} s f k p) (lines {more = n} t g l
     ap₂ (λ (u v : List ℕ). u ++ v) (ap₂ valueLine w (six-same h a b s t w))
     (ap₂ (λ (v : List (List Step)) (z : Bool). stripLines v ++ lastLine z) (same .strips) (same .remain))
 
+passed : {lower upper : ℤ} {a b : List ℤ} → Pair a b → PlanesRise lower upper → Passed (pairGates lower a upper b)
+passed p w = (traces-open p, (λ r x. not-both (x .wrong) w, tt))
+
+planes-single : {lower upper : ℤ} → Single (PlanesRefused lower upper)
+planes-single r q x y = x .is ∙ ap (at Planes) (planes-unique (x .wrong) (y .wrong)) ∙ sym (y .is)
+
 pair-unique : {lower upper : ℤ} {a b : List ℤ} {x y : List ℕ} → PairListing lower a upper b x → PairListing lower a upper b y → x ≡ y
-pair-unique (traces p) (traces q) = ap refusal (pair-refused-unique p q)
-pair-unique (traces p) (planes q w) = absurd (refused-not-pair p q)
-pair-unique (traces p) (best q r l) = absurd (refused-not-pair p q)
-pair-unique (planes p w) (traces q) = absurd (refused-not-pair q p)
-pair-unique (planes p w) (planes q v) = ap (λ (k : ℕ). refusal (at Planes k)) (planes-unique w v)
-pair-unique (planes p w) (best q r l) = absurd (not-both w r)
-pair-unique (best p r k) (traces q) = absurd (refused-not-pair q p)
-pair-unique (best p r k) (planes q w) = absurd (not-both w r)
+pair-unique {lower = l} {upper = u} {a = a} {b = b} (refused {r = r} x) (refused {r = q} y) =
+    ap refusal (one-stop (pairGates l a u b) (traces-single, (planes-single, tt)) r q x y)
+pair-unique {lower = l} {upper = u} {a = a} {b = b} (refused {r = r} x) (best p w k) = absurd (stopped-not-passed (pairGates l a u b) r x (passed p w))
+pair-unique {lower = l} {upper = u} {a = a} {b = b} (best p w k) (refused {r = r} x) = absurd (stopped-not-passed (pairGates l a u b) r x (passed p w))
 pair-unique (best p r k) (best q s l) = best-lines-unique k l
 
 -- ---- for any input
@@ -73,10 +77,10 @@ pair-unique (best p r k) (best q s l) = best-lines-unique k l
 -- the text that is written is one
 pub listing-unique : {t x y : List ℕ} → Listing t x → Listing t y → x ≡ y
 listing-unique (unread d) (unread e) = refl
-listing-unique (unread d) (read e q) = absurd (no-pair (sym d ∙ e))
-listing-unique (read d p) (unread e) = absurd (no-pair (sym e ∙ d))
-listing-unique {y = y} (read {lower = l} {upper = u} {a = a} {b = b} d p) (read {lower = l′} {upper = u′} {a = a′} {b = b′} e q) =
-    let f = sym e ∙ d in
+listing-unique (unread d) (read {lower = l} {upper = u} {a = a} {b = b} k q) = absurd (d l a u b k)
+listing-unique (read {lower = l} {upper = u} {a = a} {b = b} k p) (unread e) = absurd (e l a u b k)
+listing-unique {t} {y = y} (read {lower = l} {upper = u} {a = a} {b = b} k p) (read {lower = l′} {upper = u′} {a = a′} {b = b′} k′ q) =
+    let f : Asked.pair l′ a′ u′ b′ ≡ Asked.pair l a u b = sym (pair-exactly t l′ a′ u′ b′ .1 k′) ∙ pair-exactly t l a u b .1 k in
     let w : l′ ≡ l = cc in
     let v : u′ ≡ u = cc in
     let i : a′ ≡ a = cc in

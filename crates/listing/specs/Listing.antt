@@ -2,14 +2,14 @@
 -- first 1,000 best strips in A and B, then `end`, or `more` if some remain. Else one line `refused`, number, place."
 use mathlib.Core.Path.{_≡_}
 use mathlib.Core.Bool.{Bool, true, false}
-use mathlib.Core.List.{List, _++_}
+use mathlib.Core.List.{List, [], _∷_, _++_}
 use Prim.Native.Nat.{ℕ, _≤_, _<_}
 use lib.IntN.{ℤ, _-ℤ_}
 use lib.ListN.{length, drop}
 use Rattle.fault.specs.declared.Refusal.{Refusal}
 use Rattle.fault.specs.declared.Fault.the-variants.{Room, Planes, Text}
 use Rattle.fault.specs.Number.{numberOf}
-use Rattle.fault.specs.Gates.{at}
+use Rattle.fault.specs.Gates.{at, Gate, Stopped}
 use Rattle.strip.specs.Pair.{Pair, PairRefused}
 use Rattle.ways.specs.Strip.{Step}
 use Rattle.strip.specs.Worth.{W}
@@ -18,7 +18,7 @@ use Rattle.joining.specs.Answers.{BestOf}
 use Rattle.joining.specs.Listing.{Beginning}
 use Rattle.listing.specs.declared.Listed.{Listed}
 use Rattle.listing.specs.declared.Listed.the-variants.{Bytes, Refused}
-use Rattle.listing.specs.Asked.{reads, text, pair}
+use Rattle.listing.specs.Stated.{Asks}
 use Rattle.listing.specs.Lines.{valueLine, stripLines, endLine, moreLine, refusedLine}
 use Rattle.listing.specs.Pairs.{PlanesWrong, PlanesRise}
 
@@ -34,16 +34,24 @@ pub data BestLines (h : ℤ) (a b : List ℤ) : List ℕ → Type 0 where
   lines : {more : Bool} → (s : List Step) → BestOf a b s → (l : List (List Step)) → Beginning a b 1000 l more
       → BestLines h a b (valueLine (W a b s) (bandSix h a b s) ++ (stripLines l ++ lastLine more))
 
+-- PLANES at the lowest plane at fault
+pub record PlanesRefused (lower upper : ℤ) (r : Refusal) : Type 0 where
+  pub place : ℕ
+  pub wrong : PlanesWrong lower upper place
+  pub is : r ≡ at Planes place
+
 -- for two planes and traces: "trace by trace .. 1 to 6, then 7"
+abbrev pub pairGates : ℤ → List ℤ → ℤ → List ℤ → List Gate
+pairGates lower a upper b = PairRefused a b ∷ PlanesRefused lower upper ∷ []
+
 pub data PairListing (lower : ℤ) (a : List ℤ) (upper : ℤ) (b : List ℤ) : List ℕ → Type 0 where
-  traces : {r : Refusal} → PairRefused a b r → PairListing lower a upper b (refusal r)
-  planes : {k : ℕ} → Pair a b → PlanesWrong lower upper k → PairListing lower a upper b (refusal (at Planes k))
+  refused : {r : Refusal} → Stopped (pairGates lower a upper b) r → PairListing lower a upper b (refusal r)
   best : {bytes : List ℕ} → Pair a b → PlanesRise lower upper → BestLines (upper -ℤ lower) a b bytes → PairListing lower a upper b bytes
 
--- for any input t
+-- for any input t: TEXT where it asks for nothing that can be read as stated
 pub data Listing (t : List ℕ) : List ℕ → Type 0 where
-  unread : reads t ≡ text → Listing t (refusal (at Text 0))
-  read : {lower upper : ℤ} {a b : List ℤ} {bytes : List ℕ} → reads t ≡ pair lower a upper b → PairListing lower a upper b bytes
+  unread : ((lower : ℤ) (a : List ℤ) (upper : ℤ) (b : List ℤ) → Asks t lower a upper b → ⊥) → Listing t (refusal (at Text 0))
+  read : {lower upper : ℤ} {a b : List ℤ} {bytes : List ℕ} → Asks t lower a upper b → PairListing lower a upper b bytes
       → Listing t bytes
 
 -- room for the longest listing: a line of 42 bytes, 1,000 of 501, and `more`

@@ -2,6 +2,7 @@
 -- ReadExact). The rest are the laws behind them.
 pub mod RoundTrip
 pub mod Changes
+pub mod Content
 pub mod WriteExact
 pub mod ReadExact
 mod WriteCases

@@ -2,7 +2,8 @@
 --
 -- What is written for an accepted stack with its strips is a sound file whose contents hold that stack and those strips, so reading
 -- answers them (`written-is-read`). What is read with success is the file that is written for what was read (`read-is-written`). So
--- a file is accepted exactly when it is what `write` makes of some accepted stack with strips (`accepted-exactly`). Assumes nothing.
+-- a file is accepted exactly when it is what `write` makes of some accepted stack with strips (`accepted-exactly`). Over the calls:
+-- `write-then-read` and `read-then-write`. Assumes nothing.
 use mathlib.Core.Path.{_≡_, refl, sym, ap, _∙_, subst}
 use mathlib.Core.Bool.{Bool, true, false}
 use mathlib.Core.Logic.{_↔_}
@@ -12,7 +13,7 @@ use native.Mathlib.Omega.{arith}
 use lib.Dec.{ltb}
 use lib.IntN.{ℤ, pos}
 use lib.ListN.{length, getD, take, drop, length-map}
-use lib.Seq.{getD-take, getD-drop}
+use lib.Seq.{getD-take, getD-drop, take-at}
 use borrow.Author.Tests.{ltb-true, ltb-false}
 use Rattle.whole.specs.Between.{Within}
 use Rattle.whole.proofs.Bounds.{between-wider}
@@ -30,6 +31,11 @@ use Rattle.register.specs.Contents.{contents, contentsLong, registerFile
 use Rattle.register.specs.Stored.{InWord, Stored}
 use Rattle.register.specs.Reading.{Lent, lent, EnoughFor, filled, ReadAnswer, whole}
 use Rattle.register.specs.Reading as read
+use Rattle.register.specs.declared.Written.{Written}
+use Rattle.register.specs.declared.Written.the-variants as written-is
+use Rattle.register.specs.Writing.{fileLong, WriteAnswer}
+use Rattle.register.specs.Writing as write
+use Rattle.register.proofs.WriteExact.{write-once}
 use Rattle.register.proofs.ReadExact.{read-unique}
 use Rattle.register.proofs.ChainLaws.{trace-long}
 use Rattle.register.proofs.PutLaws.{contents-long}
@@ -98,6 +104,11 @@ module _ {es : List Layer} {c : List ℤ} (a : AcceptedStack es c) where
     unfolding registerFile
     file-sound = sealed-is-sound (contents es c l) some few
 
+    -- and as long as is asked for
+    pub file-long : length (registerFile es c l) ≡ fileLong es c
+    unfolding fileLong
+    file-long = file-sound .blocks .whole ∙ ap (λ (k : ℕ). 512 * blocksFor k) long
+
     -- and holds the stack with its strips
     pub file-holds : Stored (contentsOf blocksIn (registerFile es c l)) es c l
     unfolding registerFile
@@ -154,6 +165,34 @@ read-is-written {layers = layers} {points = points} {n = n} (read.whole {es = es
   stepsIs = cc;
   same = open-then-seal-less s (contents es c l) (t .filler) (t .short) (t .here);
 }
+
+-- ---- over the calls
+
+-- what a call of `write` leaves at the front of its slice, handed to `read`, comes back, every number
+pub write-then-read : {es : List Layer} {c : List ℤ} {l out out′ : List ℕ} {n : ℕ} {x y : Lent} {s : ReadBack}
+    → WriteAnswer es c l out out′ (written-is.Bytes n) → EnoughFor es c l x → ReadAnswer (take n out′) x y s
+    → (y ≡ filled es c l x) × (s ≡ read-is.Whole (length es) (length c / 2) (length l))
+write-then-read {es} {c} {l} {out} {x = x} {y} {s} (write.written a h r) e p =
+    let front = take-at (registerFile es c l) (drop (fileLong es c) out) (fileLong es c) (file-long a r) in
+    nothing-else-is-read a r e (subst (λ (f : List ℕ). ReadAnswer f x y s) front p)
+
+-- what a call of `read` gives, handed to `write`, is the file byte for byte
+pub read-then-write : {f : List ℕ} {x y : Lent} {layers points k : ℕ} (p : ReadAnswer f x y (read-is.Whole layers points k))
+    → {out out′ : List ℕ} {r : Written} → length f ≤ length out
+    → WriteAnswer (read-is-written p refl .es) (read-is-written p refl .c) (read-is-written p refl .l) out out′ r
+    → (r ≡ written-is.Bytes (length f)) × (take (length f) out′ ≡ f)
+read-then-write {f} p {out} {out′} {r} h q = go (read-is-written p refl) q
+  where
+    go : {x y : Lent} {layers points k : ℕ} (w : WrittenFor f x y layers points k) → WriteAnswer (w .es) (w .c) (w .l) out out′ r
+        → (r ≡ written-is.Bytes (length f)) × (take (length f) out′ ≡ f)
+    go w q =
+        let long : length f ≡ fileLong (w .es) (w .c) = ap length (sym (w .same)) ∙ file-long (w .stack) (w .strips) in
+        let again = write-once q (write.written (w .stack) (omega arith) (w .strips)) in (
+          again .1 ∙ ap written-is.Bytes (sym long),
+          ap (take (length f)) (again .0)
+              ∙ take-at (registerFile (w .es) (w .c) (w .l)) (drop (fileLong (w .es) (w .c)) out) (length f) (ap length (w .same))
+              ∙ w .same,
+        )
 
 -- ---- which files are accepted
 

@@ -29,6 +29,12 @@ pub record Ended (k : List ℕ) : Type 0 where
   pub needed : length k < contentsEnd k + 508
   pub zeros : drop (contentsEnd k) k ≡ replicate (length k - contentsEnd k) 0
 
+-- 01, 16 CONTENT, of contents of 2 to 20 layers: "contents run past the blocks, or need fewer, or the filler isn't zero"
+pub data ContentWrong (k : List ℕ) : Type 0 where
+  past : length k < contentsEnd k → ContentWrong k
+  fewer : contentsEnd k + 508 ≤ length k → ContentWrong k
+  filler : (drop (contentsEnd k) k ≡ replicate (length k - contentsEnd k) 0 → ⊥) → ContentWrong k
+
 -- the layers of the contents k, gathered
 pub record Layered (k : List ℕ) (st : Stack) : Type 0 where
   pub layers : LayersIn k

@@ -15,7 +15,7 @@ use Rattle.ways.proofs.Greatest
 use Rattle.ways.proofs.Traced
 use Rattle.ways.proofs.Unique
 use Rattle.ways.proofs.Complete
-use Rattle.ways.proofs.Complete.{Rising}
+use Rattle.ways.specs.Order.{Rising}
 use Rattle.ways.proofs.Runs
 use Rattle.ways.proofs.Numbers
 

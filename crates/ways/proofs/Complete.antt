@@ -11,16 +11,12 @@ use native.Mathlib.Omega.{arith}
 use lib.IntN.{ℤ}
 use lib.ListN.{length}
 use Rattle.ways.specs.Strip.{Step}
-use Rattle.ways.specs.Order.{Before}
+use Rattle.ways.specs.Order.{Before, Rising}
+use Rattle.ways.specs.Order as order
 use Rattle.ways.specs.Best.{Best, Onward, end, on, Listed}
 use Rattle.ways.proofs.OrderLaws.{before-irrefl, before-trans, rank, rank-less, rank-below}
 
 -- ---- a list in order, and a list in which nothing stands twice
-
--- each comes before every later one
-pub data Rising : List (List Step) → Type 0 where
-  none : Rising []
-  more : {s : List Step} {l : List (List Step)} → ((t : List Step) → List·Memᴰ t l → Before s t) → Rising l → Rising (s ∷ l)
 
 -- none stands among the later ones
 pub data Once : List (List Step) → Type 0 where
@@ -28,8 +24,8 @@ pub data Once : List (List Step) → Type 0 where
   more : {s : List Step} {l : List (List Step)} → (List·Memᴰ s l → ⊥) → Once l → Once (s ∷ l)
 
 pub rising-once : {l : List (List Step)} → Rising l → Once l
-rising-once none = none
-rising-once (more {s = s} f r) = more (λ h. before-irrefl (f s h)) (rising-once r)
+rising-once order.none = none
+rising-once (order.more {s = s} f r) = more (λ h. before-irrefl (f s h)) (rising-once r)
 
 -- so whichever is taken out is not among the others
 pub once-apart : {s : List Step} (x y : List (List Step)) → Once (x ++ s ∷ y) → List·Memᴰ s (x ++ y) → ⊥
@@ -61,8 +57,8 @@ module _ {In : List Step → Type 0} {W : List Step → ℤ} where
   onward-after b (on f o) (List·Memᴰ·tail h) = onward-after (before-trans b (f .after)) o h
 
   onward-order : {s : List Step} {l : List (List Step)} → Onward In W s l → Rising l
-  onward-order (end n) = more (λ t h. absurd (List·Memᴰ·not-nil h)) none
-  onward-order (on f o) = more (λ t h. onward-after (f .after) o h) (onward-order o)
+  onward-order (end n) = order.more (λ t h. absurd (List·Memᴰ·not-nil h)) order.none
+  onward-order (on f o) = order.more (λ t h. onward-after (f .after) o h) (onward-order o)
 
   pub listed-order : {l : List (List Step)} → Listed In W l → Rising l
   listed-order a = onward-order (a .onward)

@@ -9,4 +9,5 @@ pub mod Unique
 pub mod Complete
 pub mod Runs
 pub mod Numbers
+pub mod Segments
 pub mod Answers

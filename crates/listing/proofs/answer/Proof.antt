@@ -5,7 +5,8 @@ use Rattle.whole.proofs.Machine.{read-back}
 use Rattle.fault.specs.declared.Fault.the-variants.{Text}
 use Rattle.fault.specs.Gates.{at}
 use Rattle.listing.specs.Asked.{reads}
-use Rattle.listing.specs.Listing.{refusal, unread, read}
+use Rattle.listing.specs.Listing.{refusal}
+use Rattle.listing.proofs.Cases.{unread, read}
 use Rattle.listing.proofs.ReadLaws.{asked-text, AskedFor, asked-pair}
 use borrow.Author.Needs.{needs}
 use Rattle.listing.proofs.answer.Statement.{statement}

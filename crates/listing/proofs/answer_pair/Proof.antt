@@ -10,7 +10,8 @@ use Rattle.whole.proofs.Machine.{held, fits-holds}
 use Rattle.fault.specs.declared.Fault.the-variants.{Planes}
 use Rattle.fault.specs.Gates.{at}
 use Rattle.strip.proofs.PairLaws.{refuses-lower, refuses-upper}
-use Rattle.listing.specs.Listing.{refusal, BestLines, traces, planes, best}
+use Rattle.listing.specs.Listing.{refusal, BestLines, best}
+use Rattle.listing.proofs.Cases.{traces, planes}
 use Rattle.listing.specs.Telling.{Kept}
 use Rattle.listing.specs.Pairs.{PlanesAnswer}
 use Rattle.listing.proofs.TellLaws.{Fitted, fitted, both, both-here, areas, planes-back, planes-wrong, planes-rise, height}
