@@ -41,19 +41,6 @@ module _ {es : List Layer} {c : List ℤ} where
   stack-judged-unique (stack-is.fit a) (stack-is.refused {r = r} x) = absurd (stack-open a r x)
   stack-judged-unique (stack-is.fit a) (stack-is.fit b) = refl
 
-  -- one refusal, and none for an accepted stack
-  pub refused-once : {r s : Refusal} → StackJudged es c (Refused r) → StackJudged es c (Refused s) → r ≡ s
-  refused-once p q = same (stack-judged-unique p q)
-    where
-      same : {r s : Refusal} → Refused r ≡ Refused s → r ≡ s
-      same e = cc
-
-  pub refused-not-accepted : {r : Refusal} → StackJudged es c (Refused r) → AcceptedStack es c → ⊥
-  refused-not-accepted p a = differ (stack-judged-unique p (fit a))
-    where
-      differ : {r : Refusal} {m n : ℕ} → Refused r ≡ Fit m n → ⊥
-      differ e = let z : _≡_ {A = ℕ} 0 1 = cc in omega arith
-
   -- "fit" exactly for an accepted stack, with its number of points and of steps
   pub fit-exactly : (points n : ℕ) → StackJudged es c (Fit points n) ↔ (AcceptedStack es c × (points ≡ length c / 2) × (n ≡ steps es))
   fit-exactly points n = (λ j. of j refl, λ a. subst (StackJudged es c) (ap₂ Fit (sym (a .1)) (sym (a .2))) (fit (a .0)))
@@ -111,19 +98,6 @@ module _ {es : List Layer} {l : List ℕ} where
     where
       of : StripsJudged es l strips-are.Whole → StripsRight es l
       of (whole s) = s
-
-  -- for callers: a refusal of the strips is one, and rules out that they are right
-  pub strips-refused-once : {r s : Refusal} → StripsJudged es l (strips-are.Refused r) → StripsJudged es l (strips-are.Refused s) → r ≡ s
-  strips-refused-once p q = same (strips-judged-unique p q)
-    where
-      same : {r s : Refusal} → strips-are.Refused r ≡ strips-are.Refused s → r ≡ s
-      same e = cc
-
-  pub strips-refused-not-right : {r : Refusal} → StripsJudged es l (strips-are.Refused r) → StripsRight es l → ⊥
-  strips-refused-not-right p s = differ (strips-judged-unique p (whole s))
-    where
-      differ : {r : Refusal} → strips-are.Refused r ≡ strips-are.Whole → ⊥
-      differ e = let z : _≡_ {A = ℕ} 0 1 = cc in omega arith
 
 -- ---- the contracts leave one answer: every Stack gathers some entries
 
