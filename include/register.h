@@ -7,7 +7,46 @@
 #include <stddef.h>
 #include <stdint.h>
 
-/* number: 0 for success, 100 for none left, else the refusal's number (docs/REFUSALS.md) */
+#ifdef __cplusplus
+extern "C" {
+#endif
+
+/* Units: coordinates and planes in hundredths of a millimetre, so a value is in (1/100 mm)^2 and six times a volume in (1/100 mm)^3: 6·10^9 of
+ * these are a millilitre. */
+
+/* The number of an answer: 0 for success, 100 for none left, else the refusal's (docs/REFUSALS.md). */
+enum register_number {
+    REGISTER_SUCCESS = 0,
+    REGISTER_SHAPE = 1,
+    REGISTER_FEW = 2,
+    REGISTER_MANY = 3,
+    REGISTER_RANGE = 4,
+    REGISTER_TWIN = 5,
+    REGISTER_TURN = 6,
+    REGISTER_PLANES = 7,
+    REGISTER_ROOM = 8,
+    REGISTER_STRIP = 9,
+    REGISTER_BELOW = 10,
+    REGISTER_LAYERS = 11,
+    REGISTER_SPAN = 12,
+    REGISTER_TEXT = 13,
+    REGISTER_BLOCK = 14,
+    REGISTER_CHECK = 15,
+    REGISTER_CONTENT = 16,
+    REGISTER_NONE_LEFT = 100
+};
+
+/* The room of a call for traces of m and n points, and what is always enough. */
+#define REGISTER_STRIP_BYTES(m, n) ((size_t)(m) + (size_t)(n))
+#define REGISTER_WORK_BYTES(m, n) (((size_t)(m) + 1) * ((size_t)(n) + 1))
+#define REGISTER_LINE_BYTES(m, n, limit) (REGISTER_STRIP_BYTES(m, n) * (size_t)(limit))
+#define REGISTER_MOST_LAYERS 20
+#define REGISTER_MOST_COORDS 10000
+#define REGISTER_MOST_STEPS 9500
+#define REGISTER_MOST_WORK 63001
+#define REGISTER_MOST_FILE 50176
+#define REGISTER_LISTING_BYTES 501047
+
 struct register_answer {
     uint8_t number;
     size_t place;
@@ -116,5 +155,9 @@ struct register_file_answer register_read(const uint8_t *file, size_t file_len, 
 
 /* What the listing program prints for a text; lend 501,047 bytes. A refusal of the text is itself printed: number is then 0. */
 struct register_bytes_answer register_listing(const uint8_t *text, size_t text_len, uint8_t *out, size_t out_len);
+
+#ifdef __cplusplus
+}
+#endif
 
 #endif

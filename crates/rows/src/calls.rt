@@ -2,6 +2,11 @@
 // is still the guard.
 use crate::compares::compare;
 use crate::desk::Desk;
+use crate::hand::best;
+use crate::hand::judge;
+use crate::hand::judge_strip;
+use crate::hand::list_best;
+use crate::hand::next;
 use crate::lists::bytes_are;
 use crate::lists::front_numbers;
 use crate::lists::lend;
@@ -34,6 +39,10 @@ pub(crate) fn call(desk: Desk, words: Words) -> [u8; 50_688] {
         560_434_452_407 => return best_strips(desk.stack, words, coords),
         // write
         782_433 => return write(desk.stack, words, coords, strips),
+        // best, next, list_best
+        56_038 => return best(coords, words),
+        68_088 => return next(coords, words, all_strips),
+        6_644_326_038 => return list_best(coords, words),
         _ => {
             if !shown(desk.stack, words, coords, strips) {
                 compare(desk, words);
@@ -47,6 +56,9 @@ pub(crate) fn call(desk: Desk, words: Words) -> [u8; 50_688] {
 fn shown(stack: Stack, words: Words, coords: &[i32], strips: &[u8]) -> bool {
     let name = words.name;
     match name {
+        // judge, judge_strip
+        654_803 => judge(coords, words),
+        654_808_445_234 => judge_strip(coords, words, strips),
         // judge_stack
         654_808_443_469 => tell_fit(stack::judge_stack(stack, coords)),
         // judge_strips
@@ -116,7 +128,7 @@ fn best_strips(stack: Stack, words: Words, coords: &[i32]) -> [u8; 50_688] {
 }
 
 // Whether so many work bytes are 0, and all others the guard.
-fn work_kept(work: &[u8], cells: usize) -> bool {
+pub(crate) fn work_kept(work: &[u8], cells: usize) -> bool {
     bytes_are(work, 0, cells, 0) & bytes_are(work, cells, work.len(), 7)
 }
 

@@ -1,4 +1,4 @@
-// 01's rows on a stack and on its register file. They are data: the text on standard input, the file `stdin` beside `src`, is what is to
+// 01's rows on a trace, a pair, a stack and its register file. They are data: the text on standard input, the file `stdin` beside `src`, is what is to
 // be printed, with a command in brackets wherever an answer is to stand. So a new row is a line of that text.
 //
 // Outside brackets every byte is printed. Between brackets a command ends with its line, with a semicolon or with the bracket. It is a
@@ -10,6 +10,7 @@ mod calls;
 mod compares;
 mod desk;
 mod drawn;
+mod hand;
 mod lists;
 mod pair_calls;
 mod pairs;

@@ -23,10 +23,12 @@ pub(crate) fn refuse(refusal: Refusal) {
     tell(refusal.place);
 }
 
-// Six times a volume, if it is above zero.
+// A value, or six times a volume; no row has one below zero.
 pub(crate) fn tell_six(six: i64) {
     if 0 < six {
         tell(six as usize);
+    } else {
+        tell(0);
     }
 }
 

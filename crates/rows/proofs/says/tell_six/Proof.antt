@@ -12,6 +12,9 @@ cast-tell c = to-unsigned (ofZ w64 (c .before .args .six)) (c .if1 .taken)
 tell-requires : tie.Need-tell-requires
 tell-requires c κs = search needs
 
+tell-requires-2 : tie.Need-tell-requires-2
+tell-requires-2 c κs = search needs
+
 returns : tie.Need-returns
 returns c = search needs
 
@@ -19,4 +22,4 @@ returns-2 : tie.Need-returns-2
 returns-2 c = search needs
 
 pub tell-six-spec : {M : Type 1} → statement M
-tell-six-spec = tie.close (tie.spec cast-tell tell-requires returns returns-2)
+tell-six-spec = tie.close (tie.spec cast-tell tell-requires tell-requires-2 returns returns-2)
