@@ -1,4 +1,4 @@
--- 01, demands 2 and 3, "What comes back" and "Room for a pair": what `best` and `next` answer, and every lent byte.
+-- Demands 2 and 3; 01, "What comes back" and "Room for a pair": what `best` and `next` answer, and every lent byte.
 use mathlib.Core.Path.{_≡_}
 use mathlib.Core.List.{List, [], _∷_, _++_}
 use Prim.Native.Nat.{ℕ, _+_, _*_, _≤_}

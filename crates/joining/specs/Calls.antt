@@ -1,5 +1,5 @@
--- 01, demand 3, over the calls themselves: "Beginning with the strip given and handing each one back for the next, the traces
--- unchanged". A caller may lend other memory at each call, as long as the strip handed back is the one that was given.
+-- Demand 3, over the calls themselves: begun with the strip given, each one is handed back for the next, and the traces stay as they are. A
+-- caller may lend other memory at each call, as long as the strip handed back is the one that was given.
 use mathlib.Core.Path.{_≡_}
 use mathlib.Core.List.{List, [], _∷_, _++_, map, List·Memᴰ}
 use Prim.Native.Nat.{ℕ}
@@ -29,7 +29,7 @@ pub data Ended (a b : List ℤ) (l : List (List ℕ)) : Type 0 where
   ended : {last strip work strip′ work′ : List ℕ} → Going a b l last → shown a b strip ≡ last
       → NextAnswer a b strip work strip′ work′ NoneLeft → Ended a b l
 
--- "every strip of greatest value comes up once, in the stated order, and no other does"
+-- the whole list: every strip of greatest value once, in the stated order, and no other
 pub record Whole (a b : List ℤ) (l : List (List ℕ)) : Type 0 where
   pub strips : List (List Step)
   pub shows : l ≡ map bytes strips

@@ -1,4 +1,4 @@
--- 01: "Register files round-trip byte for byte, both ways", over the contracts of `write` and `read`.
+-- Demand 2: register files come back byte for byte, both ways, over the contracts of `write` and `read`.
 --
 -- What is written for an accepted stack with its strips is a sound file whose contents hold that stack and those strips, so reading
 -- answers them (`written-is-read`). What is read with success is the file that is written for what was read (`read-is-written`). So

@@ -1,4 +1,4 @@
--- 01, demand 2: "A strip offered by anyone is accepted exactly if it is one, with its true value." "A strip offered for judging ..
+-- Demand 2: a strip that anyone offers is accepted exactly if it is one, with its true value. 01: "A strip offered for judging ..
 -- fill[s its] slice exactly; any other length is STRIP at place 0."
 use mathlib.Core.List.{List, [], _∷_}
 use Prim.Native.Nat.{ℕ}

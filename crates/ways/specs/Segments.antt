@@ -1,4 +1,4 @@
--- 01, demand 2: a strip in Keppel's sense uses every segment of either trace once, in its turn. Step A uses A's next segment, step B uses B's.
+-- Demand 2: a strip in Keppel's sense uses every segment of either trace once, in its turn. Step A uses A's next segment, step B uses B's.
 use mathlib.Core.List.{List, [], _∷_}
 use Prim.Native.Nat.{ℕ, zero, suc}
 use Rattle.ways.specs.Strip.{Step, A, B}
