@@ -20,7 +20,3 @@ numberOf Text = 13
 numberOf Block = 14
 numberOf Check = 15
 numberOf Content = 16
-
--- "None left" has the number 100.
-abbrev pub noneLeft : ℕ
-noneLeft = 100

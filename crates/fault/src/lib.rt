@@ -1,6 +1,8 @@
 // The refusals by name, with 01's number for each ("What comes back"), and what every refusal is: a fault and a place.
 ghost use mathlib.Core.Path.{_≡_};
+ghost use Rattle.fault.specs.Gates.{at};
 ghost use Rattle.fault.specs.Number.{numberOf};
+ghost use Rattle.fault.specs.Status.{success, noneLeft, statusOf};
 
 pub enum Fault {
     // odd number of coordinates
@@ -41,6 +43,48 @@ pub enum Fault {
 pub struct Refusal {
     pub fault: Fault,
     pub place: usize,
+}
+
+// What an answer tells of itself, whoever asked: 0 for success, 100 for "none left", else the number of a refusal; and the place.
+#[repr(C)]
+pub struct Status {
+    pub number: u8,
+    pub place: usize,
+}
+
+// Every refusal is made here.
+pub fn refuse(fault: Fault, place: usize) -> Refusal
+    ensures { λ r. ⌜ r ≡ at fault place ⌝ }
+{
+    Refusal { fault, place }
+}
+
+pub fn succeeded() -> Status
+    ensures { λ r. ⌜ r ≡ success ⌝ }
+{
+    Status {
+        number: 0,
+        place: 0,
+    }
+}
+
+pub fn none_left() -> Status
+    ensures { λ r. ⌜ r ≡ noneLeft ⌝ }
+{
+    Status {
+        number: 100,
+        place: 0,
+    }
+}
+
+pub fn refused(refusal: Refusal) -> Status
+    ensures { λ r. ⌜ r ≡ statusOf refusal ⌝ }
+{
+    let fault = refusal.fault;
+    Status {
+        number: number(fault),
+        place: refusal.place,
+    }
 }
 
 // 01's number of a fault.
