@@ -2,7 +2,7 @@
 -- open gates. Assumes nothing.
 use mathlib.Core.Path.{_≡_, refl, sym, ap, ap₂, _∙_, subst}
 use mathlib.Core.Logic.{inl, inr}
-use mathlib.Core.List.{List}
+use mathlib.Core.List.{List, _∷_}
 use Prim.Native.Nat.{ℕ, suc, _-_, _%_, _<_}
 use native.Mathlib.Omega.{arith}
 use lib.IntN.{ℤ}
@@ -12,7 +12,7 @@ use Rattle.whole.proofs.Stages.{lowest-same}
 use Rattle.fault.specs.declared.Fault.{Fault}
 use Rattle.fault.specs.declared.Refusal.{Refusal}
 use Rattle.fault.specs.declared.Fault.the-variants.{Layers, Shape, Span, Planes, Strip}
-use Rattle.fault.specs.Gates.{at, due, Open, Stopped, Passed}
+use Rattle.fault.specs.Gates.{at, due, unless, Open, Stopped, Passed}
 use Rattle.fault.proofs.GateLaws.{Single, Singles, due-single, holds, placed, placed-single, none-placed, one-stop, stopped-not-passed}
 use Rattle.trace.specs.declared.Judgement.the-variants as trace-is
 use Rattle.trace.specs.Faults.{Accepted, Given}
@@ -94,22 +94,38 @@ module _ {es : List Layer} {c : List ℤ} where
 -- ---- the strips of a stack
 
 module _ {es : List Layer} {l : List ℕ} where
-  pub wrong : (length l ≡ steps es → ⊥) → StripsJudged es l (strips-are.Refused (at Strip 0))
-  wrong n = strips.refused (inl (refl, n))
+  pub no-bands : (LayersRight es → ⊥) → StripsJudged es l (strips-are.Refused (at Layers 0))
+  no-bands n = strips.refused (inl (refl, n))
 
-  pub band : {k : ℕ} → length l ≡ steps es → suc k < length es → BandFault es l k → ((j : ℕ) → j < k → BandFault es l j → ⊥)
-      → StripsJudged es l (strips-are.Refused (at Strip k))
-  band {k} e h f n = strips.refused (inr (holds e, inl (placed (record { below = omega arith; here = f; none = n }))))
+  pub wrong : LayersRight es → (length l ≡ steps es → ⊥) → StripsJudged es l (strips-are.Refused (at Strip 0))
+  wrong r n = strips.refused (inr (holds r, inl (refl, n)))
+
+  pub band : {k : ℕ} → LayersRight es → length l ≡ steps es → suc k < length es → BandFault es l k
+      → ((j : ℕ) → j < k → BandFault es l j → ⊥) → StripsJudged es l (strips-are.Refused (at Strip k))
+  band {k} r e h f n =
+      strips.refused (inr (holds r, inr (holds e, inl (placed (record { below = omega arith; here = f; none = n })))))
 
   pub right-passes : StripsRight es l → Passed (stripsGates es l)
   right-passes s = (holds (s .long), (none-placed (λ k h f. f .noStrip (s .strips k (omega arith))), tt))
 
+  strips-singles : Singles (stripsGates es l)
+  strips-singles = (due-single, (placed-single Strip (BandFault es l) (length es - 1), tt))
+
+  -- for callers: the strips as one gate
   pub strips-single : Single (Stopped (stripsGates es l))
-  strips-single r q x y =
-      one-stop (stripsGates es l) (due-single, (placed-single Strip (BandFault es l) (length es - 1), tt)) r q x y
+  strips-single r q x y = one-stop (stripsGates es l) strips-singles r q x y
 
   pub strips-open : StripsRight es l → Open (Stopped (stripsGates es l))
   strips-open s r x = stopped-not-passed (stripsGates es l) r x (right-passes s)
 
-  pub strips-stopped : {r : Refusal} → StripsJudged es l (strips-are.Refused r) → Stopped (stripsGates es l) r
-  strips-stopped (strips.refused x) = x
+  -- where there are bands
+  pub strips-stopped : {r : Refusal} → LayersRight es → StripsJudged es l (strips-are.Refused r) → Stopped (stripsGates es l) r
+  strips-stopped {r} s (strips.refused (inl x)) = absurd (x .1 s)
+  strips-stopped {r} s (strips.refused (inr x)) = x .1
+
+  -- with the bands' own gate
+  pub judged-single : Single (Stopped (unless Layers (LayersRight es) ∷ stripsGates es l))
+  judged-single r q x y = one-stop (unless Layers (LayersRight es) ∷ stripsGates es l) (due-single, strips-singles) r q x y
+
+  pub judged-open : LayersRight es → StripsRight es l → Open (Stopped (unless Layers (LayersRight es) ∷ stripsGates es l))
+  judged-open r s q x = stopped-not-passed (unless Layers (LayersRight es) ∷ stripsGates es l) q x (holds r, right-passes s)

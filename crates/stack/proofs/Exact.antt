@@ -15,20 +15,16 @@ use Rattle.trace.specs.Faults.{traceGates, Given}
 use Rattle.trace.specs.Faults as given
 use Rattle.fault.specs.Gates.{at, Stopped}
 use Rattle.stack.specs.declared.Layer.{Layer}
-use Rattle.stack.specs.declared.Stack.{Stack}
 use Rattle.stack.specs.declared.StackJudgement.{StackJudgement}
 use Rattle.stack.specs.declared.StackJudgement.the-variants.{Fit, Refused}
 use Rattle.stack.specs.declared.StripsJudgement.{StripsJudgement}
 use Rattle.stack.specs.declared.StripsJudgement.the-variants as strips-are
 use Rattle.stack.specs.Entries.{entry, traceOf, steps}
-use Rattle.stack.specs.Faults.{Spanned, TraceFault, AcceptedStack, StackJudged, fit}
+use Rattle.stack.specs.Faults.{LayersRight, Spanned, TraceFault, AcceptedStack, StackJudged, fit}
 use Rattle.stack.specs.Faults as stack-is
-use Rattle.stack.specs.Strips.{StripsRight, StripsJudged, whole, StripsAnswered, over, judged}
+use Rattle.stack.specs.Strips.{StripsRight, StripsJudged, whole}
 use Rattle.stack.specs.Strips as strips
-use Rattle.stack.specs.Gathered.{Gathers}
-use Rattle.stack.specs.Laid.{laid}
-use Rattle.stack.proofs.Cases.{stack-single, stack-open, strips-single, strips-open}
-use Rattle.stack.proofs.Laying.{laid-gathers}
+use Rattle.stack.proofs.Cases.{stack-single, stack-open, judged-single, judged-open}
 use Rattle.stack.proofs.StackLaws.{spanned-inside, traceOf-even}
 
 -- ---- a stack
@@ -71,40 +67,16 @@ trace-fault-number {es} {c} {k} s h t = number (traceOf-even c (entry es k) (spa
 
 -- ---- the strips of a stack
 
-more-and-less : {n : ℕ} → 20 < n → n ≤ 20 → ⊥
-more-and-less h b = omega arith
-
 module _ {es : List Layer} {l : List ℕ} where
   pub strips-judged-unique : {r s : StripsJudgement} → StripsJudged es l r → StripsJudged es l s → r ≡ s
-  strips-judged-unique (strips.refused {r = r} x) (strips.refused {r = q} y) = ap strips-are.Refused (strips-single r q x y)
-  strips-judged-unique (strips.refused {r = r} x) (whole s) = absurd (strips-open s r x)
-  strips-judged-unique (whole s) (strips.refused {r = r} x) = absurd (strips-open s r x)
-  strips-judged-unique (whole s) (whole t) = refl
+  strips-judged-unique (strips.refused {r = r} x) (strips.refused {r = q} y) = ap strips-are.Refused (judged-single r q x y)
+  strips-judged-unique (strips.refused {r = r} x) (whole n s) = absurd (judged-open n s r x)
+  strips-judged-unique (whole n s) (strips.refused {r = r} x) = absurd (judged-open n s r x)
+  strips-judged-unique (whole _ _) (whole _ _) = refl
 
-  pub strips-answered-unique : {r s : StripsJudgement} → StripsAnswered es l r → StripsAnswered es l s → r ≡ s
-  strips-answered-unique (over _) (over _) = refl
-  strips-answered-unique (over h) (judged b _) = absurd (more-and-less h b)
-  strips-answered-unique (judged b _) (over h) = absurd (more-and-less h b)
-  strips-answered-unique (judged _ p) (judged _ q) = strips-judged-unique p q
-
-  -- of up to 20 layers the answer is the judgement
-  pub answered-judged : {r : StripsJudgement} → length es ≤ 20 → StripsAnswered es l r → StripsJudged es l r
-  answered-judged b (over h) = absurd (more-and-less h b)
-  answered-judged b (judged _ p) = p
-
-  -- "whole" exactly if every band's part is a strip
-  pub whole-exactly : StripsJudged es l strips-are.Whole ↔ StripsRight es l
-  whole-exactly = (of, whole)
+  -- "whole" exactly if there are bands and every band's part is a strip
+  pub whole-exactly : StripsJudged es l strips-are.Whole ↔ (LayersRight es × StripsRight es l)
+  whole-exactly = (of, λ w. whole (w .0) (w .1))
     where
-      of : StripsJudged es l strips-are.Whole → StripsRight es l
-      of (whole s) = s
-
--- ---- the contracts leave one answer: every Stack gathers some entries
-
-pub judge-stack-unique : (st : Stack) (c : List ℤ) {r s : StackJudgement} → ((es : List Layer) → Gathers st es → StackJudged es c r)
-    → ((es : List Layer) → Gathers st es → StackJudged es c s) → r ≡ s
-judge-stack-unique st c p q = stack-judged-unique (p (laid st) (laid-gathers st)) (q (laid st) (laid-gathers st))
-
-pub judge-strips-unique : (st : Stack) (l : List ℕ) {r s : StripsJudgement} → ((es : List Layer) → Gathers st es → StripsAnswered es l r)
-    → ((es : List Layer) → Gathers st es → StripsAnswered es l s) → r ≡ s
-judge-strips-unique st l p q = strips-answered-unique (p (laid st) (laid-gathers st)) (q (laid st) (laid-gathers st))
+      of : StripsJudged es l strips-are.Whole → LayersRight es × StripsRight es l
+      of (whole n s) = (n, s)

@@ -12,20 +12,17 @@ use borrow.Author.Tests.{le-ltb, ltb-false}
 use Rattle.whole.proofs.TestLaws.{true≢false, or-false}
 use Rattle.fault.specs.declared.Fault.{Fault}
 use Rattle.fault.specs.declared.Refusal.{Refusal}
-use Rattle.fault.specs.declared.Fault.the-variants.{Layers}
 use Rattle.trace.specs.declared.Judgement.{Judgement}
 use Rattle.trace.specs.declared.Judgement.the-variants as trace-is
 use Rattle.trace.specs.Faults.{Accepted, Given}
 use Rattle.trace.specs.Faults as given
-use Rattle.fault.specs.Gates.{at}
 use Rattle.trace.specs.Refused.{refusalOf}
 use Rattle.stack.specs.declared.Layer.{Layer}
 use Rattle.stack.specs.declared.Stack.{Stack}
 use Rattle.stack.specs.declared.StackJudgement.the-variants.{Fit, Refused}
 use Rattle.stack.specs.Entries.{entry, traceOf, steps}
 use Rattle.stack.specs.Faults.{LayersRight, Spanned, AcceptedStack, StackJudged, fit}
-use Rattle.stack.proofs.Cases.{accepted-unfaulted, layers, trace}
-use Rattle.stack.specs.Gathered.{Gathers}
+use Rattle.stack.proofs.Cases.{accepted-unfaulted, trace}
 use Rattle.stack.specs.Laid.{laid}
 use Rattle.stack.proofs.Laying.{laid-long}
 use Rattle.stack.proofs.StackLaws.{accepted-steps}
@@ -59,16 +56,15 @@ fit-told {es} {c} {n} h a e =
 
 -- ---- the number of layers
 
-pub layers-refused : {st : Stack} {c : List ℤ} → (ltb (st .layers) 2 || ltb 20 (st .layers)) ≡ true → (es : List Layer) → Gathers st es
-    → StackJudged es c (Refused (at Layers 0))
-layers-refused {st} e es g =
-    layers (λ l. true≢false (sym e
-    ∙ ap₂ _||_ (le-ltb (st .layers) 2 (omega (arith, l .two, g .long))) (le-ltb 20 (st .layers) (omega (arith, l .twenty, g .long)))))
+pub layers-wrong : (st : Stack) → (ltb (st .count) 2 || ltb 20 (st .count)) ≡ true → LayersRight (laid st) → ⊥
+layers-wrong st e l =
+    true≢false (sym e
+    ∙ ap₂ _||_ (le-ltb (st .count) 2 (omega (arith, l .two, laid-long st))) (le-ltb 20 (st .count) (omega (arith, l .twenty, laid-long st))))
 
-pub layers-right : (st : Stack) → (ltb (st .layers) 2 || ltb 20 (st .layers)) ≡ false → LayersRight (laid st)
+pub layers-right : (st : Stack) → (ltb (st .count) 2 || ltb 20 (st .count)) ≡ false → LayersRight (laid st)
 layers-right st e =
-    let both : (ltb (st .layers) 2 ≡ false) × (ltb 20 (st .layers) ≡ false) = or-false _ _ e in
+    let both : (ltb (st .count) 2 ≡ false) × (ltb 20 (st .count) ≡ false) = or-false _ _ e in
     record {
-      two = omega (arith, laid-long st, ltb-false (st .layers) 2 (both .0));
-      twenty = omega (arith, laid-long st, ltb-false 20 (st .layers) (both .1));
+      two = omega (arith, laid-long st, ltb-false (st .count) 2 (both .0));
+      twenty = omega (arith, laid-long st, ltb-false 20 (st .count) (both .1));
     }

@@ -1,89 +1,47 @@
--- The entries that a Stack's arrays hold: there are such entries for every Stack, and of up to 20 layers no others, so a
--- contract about all entries that a Stack gathers is one about these. Assumes nothing.
-use mathlib.Core.Path.{_≡_, refl, sym, ap, _∙_, subst}
-use mathlib.Core.Bool.{Bool, cond}
-use mathlib.Core.List.{List, [], _∷_}
-use Prim.Native.Nat.{ℕ, zero, suc, _+_, _≤_, _<_}
+-- The entries that a Stack holds, one by one, and the Stack that holds a list: of up to 20 entries the two undo each other, and one more
+-- entry in the Stack is one more behind the list. Assumes nothing.
+use mathlib.Core.Path.{_≡_, refl, sym, ap, ap₂, _∙_}
+use mathlib.Core.Bool.{Bool, true, false, cond}
+use mathlib.Core.List.{List, [], _∷_, _++_}
+use Prim.Native.Nat.{ℕ, suc, _+_, _≤_, _<_}
 use native.Mathlib.Numerals.{add-one}
 use native.Mathlib.Omega.{arith}
-use lib.IntN.{ℤ}
-use lib.ListN.{length, getD}
-use lib.Seq.{ext-getD}
-use borrow.Author.Tests.{lt-ltb, le-ltb}
+use lib.Dec.{ltb, eqb}
+use lib.ListN.{length, take, set, replicate, getD-replicate, length-set, length-take, length-append, List·getD-eq-default, List·getD-append}
+use lib.Seq.{ext-getD, getD-take, getD-set-same, getD-set-other, getD-append-seam}
+use borrow.Author.Tests.{lt-ltb, le-ltb, ltb-true, ltb-false, eqb-true, eqb-false}
+use Rattle.whole.specs.Firstly.{firstly}
+use Rattle.whole.proofs.Firstly.{length-firstly, getD-firstly, is-firstly}
 use Rattle.stack.specs.declared.Layer.{Layer}
 use Rattle.stack.specs.declared.Stack.{Stack}
 use Rattle.stack.specs.Entries.{noLayer, entry, steps, bandStart}
-use Rattle.stack.specs.Gathered.{Gathers}
 use Rattle.stack.specs.Faults.{LayersRight}
-use Rattle.stack.specs.Laid.{upTo, layerAt, handedIn, laid}
+use Rattle.stack.specs.Laid.{laid, stackOf, oneMore}
 use Rattle.stack.proofs.StackLaws.{band-fits}
 
-length-upTo : (n : ℕ) (f : ℕ → Layer) → length (upTo n f) ≡ n
-unfolding upTo
-length-upTo zero f = refl
-length-upTo (suc n) f = ap suc (length-upTo n (λ k. f (suc k)))
+-- ---- the entries of a Stack
 
-getD-upTo : (n : ℕ) (f : ℕ → Layer) (k : ℕ) (d : Layer) → k < n → getD (upTo n f) k d ≡ f k
-unfolding upTo
-getD-upTo zero f k d h = absurd (none k h)
-  where
-    none : (k : ℕ) → k < 0 → ⊥
-    none k h = omega arith
-getD-upTo (suc n) f zero d h = refl
-getD-upTo (suc n) f (suc k) d h = getD-upTo n (λ k. f (suc k)) k d (omega arith)
-
-pub laid-long : (st : Stack) → length (laid st) ≡ st .layers
+pub laid-long : (st : Stack) → length (laid st) ≡ st .count
 unfolding laid
-laid-long st = length-upTo (st .layers) (handedIn st)
+laid-long st = length-firstly (st .count) (entry (take 20 (st .layers)))
 
-pub laid-twenty : (st : Stack) → LayersRight (laid st) → st .layers ≤ 20
+pub laid-twenty : (st : Stack) → LayersRight (laid st) → st .count ≤ 20
 laid-twenty st r = omega (arith, r .twenty, laid-long st)
 
-laid-handed : (st : Stack) (k : ℕ) → k < st .layers → entry (laid st) k ≡ handedIn st k
+laid-handed : (st : Stack) (k : ℕ) → k < st .count → entry (laid st) k ≡ entry (take 20 (st .layers)) k
 unfolding laid
-laid-handed st k h = getD-upTo (st .layers) (handedIn st) k noLayer h
+laid-handed st k h = getD-firstly (st .count) (entry (take 20 (st .layers))) k noLayer h
 
-pub laid-at : (st : Stack) (k : ℕ) → k < st .layers → k < 20 → entry (laid st) k ≡ layerAt st k
-unfolding handedIn
-laid-at st k h b = laid-handed st k h ∙ ap (λ (t : Bool). cond t (layerAt st k) noLayer) (lt-ltb k 20 b)
+pub laid-at : (st : Stack) (k : ℕ) → k < st .count → k < 20 → entry (laid st) k ≡ entry (st .layers) k
+laid-at st k h b = laid-handed st k h ∙ getD-take 20 (st .layers) k noLayer b
 
 -- past the entries, and past the 20 that are handed in
-pub laid-past : (st : Stack) (k : ℕ) → st .layers ≤ k → entry (laid st) k ≡ noLayer
-laid-past st k h = getD-past (laid st) k noLayer (omega (arith, laid-long st))
-  where
-    getD-past : (l : List Layer) (k : ℕ) (d : Layer) → length l ≤ k → getD l k d ≡ d
-    getD-past [] k d h = refl
-    getD-past (e ∷ l) zero d h = absurd (none (length l) h)
-      where
-        none : (n : ℕ) → suc n ≤ 0 → ⊥
-        none n h = omega arith
-    getD-past (e ∷ l) (suc k) d h = getD-past l k d (omega arith)
+pub laid-past : (st : Stack) (k : ℕ) → st .count ≤ k → entry (laid st) k ≡ noLayer
+laid-past st k h = List·getD-eq-default (laid st) noLayer (omega (arith, laid-long st))
 
-pub laid-over : (st : Stack) (k : ℕ) → k < st .layers → 20 ≤ k → entry (laid st) k ≡ noLayer
-unfolding handedIn
-laid-over st k h b = laid-handed st k h ∙ ap (λ (t : Bool). cond t (layerAt st k) noLayer) (le-ltb k 20 b)
-
-pub laid-gathers : (st : Stack) → Gathers st (laid st)
-laid-gathers st = record {
-  long = laid-long st;
-  plane = λ k h b. ap (λ (e : Layer). e .plane) (laid-at st k (omega (arith, laid-long st)) b);
-  first = λ k h b. ap (λ (e : Layer). e .first) (laid-at st k (omega (arith, laid-long st)) b);
-  count = λ k h b. ap (λ (e : Layer). e .count) (laid-at st k (omega (arith, laid-long st)) b);
-}
-
-same-layer : (d e : Layer) → d .plane ≡ e .plane → d .first ≡ e .first → d .count ≡ e .count → d ≡ e
-same-layer d e p f c =
-    ap (λ (z : ℤ). of z (d .first) (d .count)) p ∙ ap (λ (n : ℕ). of (e .plane) n (d .count)) f
-    ∙ ap (λ (n : ℕ). of (e .plane) (e .first) n) c
-  where
-    of : ℤ → ℕ → ℕ → Layer
-    of z a b = record { plane = z; first = a; count = b }
-
-pub laid-only : (st : Stack) (es : List Layer) → st .layers ≤ 20 → Gathers st es → es ≡ laid st
-laid-only st es h g = ext-getD noLayer es (laid st) (g .long ∙ sym (laid-long st)) (λ k b.
-    let in20 : k < 20 = omega (arith, g .long) in
-    same-layer (entry es k) (layerAt st k) (g .plane k b in20) (g .first k b in20) (g .count k b in20)
-    ∙ sym (laid-at st k (omega (arith, g .long)) in20))
+pub laid-over : (st : Stack) (k : ℕ) → k < st .count → 20 ≤ k → entry (laid st) k ≡ noLayer
+laid-over st k h b =
+    laid-handed st k h ∙ List·getD-eq-default (take 20 (st .layers)) noLayer (simp length-take (omega arith))
 
 -- the counts of an entry and of the one above it, where the code says k + 1
 pub count-at : (es : List Layer) (k : ℕ) {e : Layer} → e ≡ entry es k → e .count ≡ entry es k .count
@@ -93,10 +51,77 @@ pub count-above : (es : List Layer) (k : ℕ) {e : Layer} → e ≡ entry es (k 
 count-above es k p = count-at es (suc k) (p ∙ ap (entry es) (add-one k))
 
 -- a band's part lies inside the strips
-pub laid-fits : (st : Stack) (k : ℕ) → suc k < st .layers
+pub laid-fits : (st : Stack) (k : ℕ) → suc k < st .count
     → bandStart (laid st) k + (entry (laid st) k .count + entry (laid st) (suc k) .count) ≤ steps (laid st)
 laid-fits st k h = band-fits (laid st) k (omega (arith, laid-long st))
 
--- what holds of the entries that the arrays hold holds of all that the Stack gathers
-pub for-gathered : (P : List Layer → Type 0) (st : Stack) → st .layers ≤ 20 → P (laid st) → (es : List Layer) → Gathers st es → P es
-for-gathered P st h p es g = subst P (sym (laid-only st es h g)) p
+-- ---- the Stack of a list
+
+pub counted : (es : List Layer) → stackOf es .count ≡ length es
+unfolding stackOf
+counted es = refl
+
+pub laid-of : (es : List Layer) → length es ≤ 20 → laid (stackOf es) ≡ es
+unfolding stackOf
+laid-of es h =
+    let st = stackOf es in
+    ext-getD noLayer (laid st) es (laid-long st) (λ k b.
+    let less : k < length es = omega (arith, laid-long st) in
+    let low : k < 20 = omega arith in
+    laid-at st k less low ∙ getD-firstly 20 (entry es) k noLayer low)
+
+-- the array of no entries
+pub none-held : record { layers = replicate 20 noLayer; count = 0 } ≡ stackOf []
+unfolding stackOf
+none-held = ap (λ (l : List Layer). record { layers = l; count = 0 }) (is-firstly (replicate 20 noLayer) 20 (λ k. noLayer) noLayer refl
+    (λ k h. getD-replicate 20 k noLayer noLayer h))
+
+-- ---- one layer more
+
+pub put-more : (st : Stack) (e : Layer) {n : ℕ} → st .count < 20 → n ≡ suc (st .count)
+    → record { layers = set (st .layers) (st .count) e; count = n } ≡ oneMore st e
+unfolding oneMore
+put-more st e h q =
+    ap (λ (n : ℕ). record { layers = set (st .layers) (st .count) e; count = n }) q
+    ∙ sym (ap (λ (t : Bool). cond t (record { layers = set (st .layers) (st .count) e; count = suc (st .count) }) st) (lt-ltb (st .count) 20 h))
+
+pub full-stays : (st : Stack) (e : Layer) → 20 ≤ st .count → st ≡ oneMore st e
+unfolding oneMore
+full-stays st e h =
+    sym (ap (λ (t : Bool). cond t (record { layers = set (st .layers) (st .count) e; count = suc (st .count) }) st) (le-ltb (st .count) 20 h))
+
+module _ (es : List Layer) (e : Layer) where
+  -- what stands at k, behind the list and elsewhere
+  behind : (k : ℕ) → (k ≡ length es → ⊥) → entry (es ++ (e ∷ [])) k ≡ entry es k
+  behind k other = go (ltb k (length es)) refl
+    where
+      go : (t : Bool) → ltb k (length es) ≡ t → entry (es ++ (e ∷ [])) k ≡ entry es k
+      go true q = List·getD-append es (e ∷ []) noLayer k (ltb-true k (length es) q)
+      go false q =
+          let h : length es ≤ k = ltb-false k (length es) q in
+          let past : length es < k = omega arith in
+          List·getD-eq-default (es ++ (e ∷ [])) noLayer (simp length-append (omega arith))
+          ∙ sym (List·getD-eq-default es noLayer h)
+
+  pub one-more : length es < 20 → oneMore (stackOf es) e ≡ stackOf (es ++ (e ∷ []))
+  unfolding oneMore stackOf
+  one-more h =
+      ap (λ (t : Bool). cond t (record { layers = set (firstly 20 (entry es)) n e; count = suc n }) (stackOf es)) (lt-ltb n 20 h)
+      ∙ ap₂ (λ (l : List Layer) (m : ℕ). record { layers = l; count = m }) put (sym (simp length-append (omega arith)))
+    where
+      n : ℕ
+      n = length es
+
+      at : (k : ℕ) (t : Bool) → eqb k n ≡ t → k < 20 → entry (set (firstly 20 (entry es)) n e) k ≡ entry (es ++ (e ∷ [])) k
+      at k true q b =
+          let same : k ≡ n = eqb-true k n q in
+          ap (entry (set (firstly 20 (entry es)) n e)) same
+          ∙ getD-set-same (firstly 20 (entry es)) n e noLayer (omega (arith, length-firstly 20 (entry es)))
+          ∙ sym (ap (entry (es ++ (e ∷ []))) same ∙ getD-append-seam es e [] noLayer)
+      at k false q b =
+          let other : k ≡ n → ⊥ = eqb-false k n q in
+          getD-set-other (firstly 20 (entry es)) n k e noLayer other ∙ getD-firstly 20 (entry es) k noLayer b ∙ sym (behind k other)
+
+      put : set (firstly 20 (entry es)) n e ≡ firstly 20 (entry (es ++ (e ∷ [])))
+      put = is-firstly (set (firstly 20 (entry es)) n e) 20 (entry (es ++ (e ∷ []))) noLayer
+          (length-set (firstly 20 (entry es)) n e ∙ length-firstly 20 (entry es)) (λ k b. at k (eqb k n) refl b)

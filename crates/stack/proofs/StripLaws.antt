@@ -85,7 +85,7 @@ strip-tells {a} {b} m n {l} s =
 module _ (st : Stack) (k at : ℕ) (l : List ℕ) {d e : Layer} (a : at ≡ bandStart (laid st) k)
     (p : d ≡ entry (laid st) k) (q : e ≡ entry (laid st) (k + 1)) where
   -- it lies inside a slice of all steps
-  pub band-inside : suc k < st .layers → length l ≡ steps (laid st) → at + (d .count + e .count) ≤ length l
+  pub band-inside : suc k < st .count → length l ≡ steps (laid st) → at + (d .count + e .count) ≤ length l
   band-inside h s = omega (arith, count-at (laid st) k p, count-above (laid st) k q, laid-fits st k h)
 
   -- whether the part that is lent is a strip of the two counts is whether the band's is

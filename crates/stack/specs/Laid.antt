@@ -1,25 +1,22 @@
--- The entries that a Stack's arrays hold, one by one: what `layer_at` answers. Of over 20 layers no more are handed in, and
--- zeros stand for the rest.
+-- A Stack, which is passed by value, and the list of entries that it holds.
 use mathlib.Core.Bool.{cond}
-use mathlib.Core.List.{List, [], _∷_}
-use Prim.Native.Nat.{ℕ, zero, suc}
+use mathlib.Core.List.{List}
+use Prim.Native.Nat.{ℕ, suc}
 use lib.Dec.{ltb}
-use lib.IntN.{pos}
-use lib.ListN.{getD}
+use lib.ListN.{length, take, set}
+use Rattle.whole.specs.Firstly.{firstly}
 use Rattle.stack.specs.declared.Layer.{Layer}
 use Rattle.stack.specs.declared.Stack.{Stack}
-use Rattle.stack.specs.Entries.{noLayer}
+use Rattle.stack.specs.Entries.{entry}
 
--- f 0, f 1, .., f (n-1)
-unfoldable pub upTo : ℕ → (ℕ → Layer) → List Layer
-upTo zero f = []
-upTo (suc n) f = f 0 ∷ upTo n (λ k. f (suc k))
-
-abbrev pub layerAt : Stack → ℕ → Layer
-layerAt st k = record { plane = getD (st .plane) k (pos 0); first = getD (st .first) k 0; count = getD (st .count) k 0 }
-
-unfoldable pub handedIn : Stack → ℕ → Layer
-handedIn st k = cond (ltb k 20) (layerAt st k) noLayer
-
+-- as many as it counts: the first 20 from its array, past these empty ones. (Over 20 are refused by their number.)
 unfoldable pub laid : Stack → List Layer
-laid st = upTo (st .layers) (handedIn st)
+laid st = firstly (st .count) (entry (take 20 (st .layers)))
+
+-- the stack that holds a list: its number, and its first 20 entries
+unfoldable pub stackOf : List Layer → Stack
+stackOf es = record { layers = firstly 20 (entry es); count = length es }
+
+-- one layer more, if there is room
+unfoldable pub oneMore : Stack → Layer → Stack
+oneMore st e = cond (ltb (st .count) 20) (record { layers = set (st .layers) (st .count) e; count = suc (st .count) }) st

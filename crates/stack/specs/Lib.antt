@@ -2,6 +2,4 @@
 pub mod Entries
 pub mod Faults
 pub mod Strips
-pub mod Gathered
-pub mod Refusals
 pub mod Laid

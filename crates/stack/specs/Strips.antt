@@ -4,14 +4,15 @@ use mathlib.Core.Path.{_≡_}
 use mathlib.Core.List.{List, [], _∷_}
 use Prim.Native.Nat.{ℕ, suc, _+_, _-_, _≤_, _<_}
 use lib.ListN.{length, take, drop}
-use Rattle.fault.specs.declared.Fault.the-variants.{Strip}
+use Rattle.fault.specs.declared.Fault.the-variants.{Layers, Strip}
 use Rattle.fault.specs.declared.Refusal.{Refusal}
-use Rattle.fault.specs.Gates.{at, Gate, unless, Placed, Stopped}
+use Rattle.fault.specs.Gates.{Gate, unless, Placed, Stopped}
 use Rattle.strip.specs.Bytes.{IsStrip}
 use Rattle.stack.specs.declared.Layer.{Layer}
 use Rattle.stack.specs.declared.StripsJudgement.{StripsJudgement}
 use Rattle.stack.specs.declared.StripsJudgement.the-variants.{Whole, Refused}
 use Rattle.stack.specs.Entries.{entry, steps, bandStart}
+use Rattle.stack.specs.Faults.{LayersRight}
 
 -- the part of band k
 unfoldable pub bandPart : List Layer → List ℕ → ℕ → List ℕ
@@ -33,11 +34,7 @@ pub record StripsRight (es : List Layer) (l : List ℕ) : Type 0 where
 abbrev pub stripsGates : List Layer → List ℕ → List Gate
 stripsGates es l = unless Strip (length l ≡ steps es) ∷ Placed Strip (BandFault es l) (length es - 1) ∷ []
 
+-- LAYERS, so that there are bands, and STRIP
 pub data StripsJudged (es : List Layer) (l : List ℕ) : StripsJudgement → Type 0 where
-  refused : {r : Refusal} → Stopped (stripsGates es l) r → StripsJudged es l (Refused r)
-  whole : StripsRight es l → StripsJudged es l Whole
-
--- what is answered for any number of layers: of over 20 the entries are not all handed in, so nothing but their number counts
-pub data StripsAnswered (es : List Layer) (l : List ℕ) : StripsJudgement → Type 0 where
-  over : 20 < length es → StripsAnswered es l (Refused (at Strip 0))
-  judged : {r : StripsJudgement} → length es ≤ 20 → StripsJudged es l r → StripsAnswered es l r
+  refused : {r : Refusal} → Stopped (unless Layers (LayersRight es) ∷ stripsGates es l) r → StripsJudged es l (Refused r)
+  whole : LayersRight es → StripsRight es l → StripsJudged es l Whole

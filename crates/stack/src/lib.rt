@@ -1,21 +1,19 @@
 // A stack of layers over one coordinate list, and the strips of its bands.
 ghost use mathlib.Core.Path.{_≡_};
-ghost use mathlib.Core.List.{List};
+ghost use mathlib.Core.List.{[]};
 ghost use Prim.Native.Nat.{ℕ, suc, _+_, _-_, _*_, _/_, _%_, _≤_, _<_, min};
 ghost use lib.ListN.{length};
 ghost use Rattle.whole.specs.Lowest.{Sought, FirstPlace};
 ghost use Rattle.whole.specs.Tells.{Tells};
 ghost use Rattle.trace.specs.Faults.{Accepted, Given};
 ghost use Rattle.strip.specs.Bytes.{IsStrip};
-ghost use Rattle.stack.specs.declared.Layer.{Layer};
 ghost use Rattle.stack.specs.Entries.{noLayer, entry, traceOf, stop, start, steps, bandStart};
 ghost use Rattle.stack.specs.Faults.{Breaks, PlaneFault, LayersRight, Spanned, StackJudged};
-ghost use Rattle.stack.specs.Strips.{BandStrip, BandFault, StripsAnswered};
-ghost use Rattle.stack.specs.Gathered.{Gathers};
-ghost use Rattle.stack.specs.Refusals.{stackRefusal, stripsRefusal};
-ghost use Rattle.stack.specs.Laid.{laid};
+ghost use Rattle.stack.specs.Strips.{BandStrip, BandFault, StripsJudged};
+ghost use Rattle.stack.specs.Laid.{laid, stackOf, oneMore};
 use fault::Fault;
 use fault::Refusal;
+use fault::refuse;
 use trace::Judgement;
 use trace::in_range;
 
@@ -27,13 +25,10 @@ pub struct Layer {
     pub count: usize,
 }
 
-// The entries of a stack, by value: the first 20 of them, and how many were handed in.
-#[repr(C)]
+// The entries of a stack, by value: how many there are, and the first 20 of them.
 pub struct Stack {
-    pub plane: [i32; 20],
-    pub first: [usize; 20],
-    pub count: [usize; 20],
-    pub layers: usize,
+    pub layers: [Layer; 20],
+    pub count: usize,
 }
 
 pub enum StackJudgement {
@@ -48,78 +43,56 @@ pub enum StripsJudgement {
     Refused(Refusal),
 }
 
-// The refusal that a judgement carries. (A fit stack has none: what is answered for it is not asked for. So below.)
-pub fn stack_refusal(judged: StackJudgement) -> Refusal
-    ensures { λ r. ⌜ r ≡ stackRefusal judged ⌝ }
-{
-    match judged {
-        StackJudgement::Refused(refusal) => refusal,
-        StackJudgement::Fit {
-            points: _,
-            steps: _,
-        } => Refusal {
-            fault: Fault::Layers,
-            place: 0,
-        },
-    }
-}
-
-pub fn strips_refusal(judged: StripsJudgement) -> Refusal
-    ensures { λ r. ⌜ r ≡ stripsRefusal judged ⌝ }
-{
-    match judged {
-        StripsJudgement::Refused(refusal) => refusal,
-        StripsJudgement::Whole => Refusal {
-            fault: Fault::Strip,
-            place: 0,
-        },
-    }
-}
-
 // Takes every stack and every list: LAYERS, SHAPE, SPAN, then trace by trace, then PLANES.
 pub fn judge_stack(stack: Stack, coords: &[i32]) -> StackJudgement
-    ensures { λ r. ⌜ ((es : List Layer) → Gathers stack es → StackJudged es (now (coords .entry)) r) ⌝ }
+    ensures { λ r. ⌜ StackJudged (laid stack) (now (coords .entry)) r ⌝ }
 {
-    if (stack.layers < 2) | (20 < stack.layers) {
-        return StackJudgement::Refused(Refusal {
-            fault: Fault::Layers,
-            place: 0,
-        });
+    if (stack.count < 2) | (20 < stack.count) {
+        return StackJudgement::Refused(refuse(Fault::Layers, 0));
     }
     if coords.len() % 2 == 1 {
-        return StackJudgement::Refused(Refusal {
-            fault: Fault::Shape,
-            place: 0,
-        });
+        return StackJudgement::Refused(refuse(Fault::Shape, 0));
     }
     let broken = first_break(stack, coords);
-    if broken < stack.layers {
-        return StackJudgement::Refused(Refusal {
-            fault: Fault::Span,
-            place: broken,
-        });
+    if broken < stack.count {
+        return StackJudgement::Refused(refuse(Fault::Span, broken));
     }
     judge_traces(stack, coords)
 }
 
-// Entry `k`; past the last entry, and past the 20 that are handed in, one of zeros. The arrays are read here and nowhere else.
+// A stack without a layer.
+pub fn no_layers() -> Stack
+    ensures { λ r. ⌜ r ≡ stackOf [] ⌝ }
+{
+    Stack {
+        layers: [no_layer(); 20],
+        count: 0,
+    }
+}
+
+// One layer more. A stack has room for 20 of them; a fuller one stays as it is.
+pub fn with_layer(mut stack: Stack, layer: Layer) -> Stack
+    ensures { λ r. ⌜ r ≡ oneMore stack layer ⌝ }
+{
+    let k = stack.count;
+    if k < 20 {
+        stack.layers[k] = layer;
+        stack.count = k + 1;
+    }
+    stack
+}
+
+// Entry `k`; past the last entry, and past the 20 that are handed in, one of zeros. The array is read here and nowhere else.
 pub fn layer_at(stack: Stack, k: usize) -> Layer
     ensures { λ r. ⌜ r ≡ entry (laid stack) k ⌝ }
 {
-    if stack.layers <= k {
+    if stack.count <= k {
         return no_layer();
     }
     if 20 <= k {
         return no_layer();
     }
-    let planes = stack.plane;
-    let firsts = stack.first;
-    let counts = stack.count;
-    Layer {
-        plane: planes[k],
-        first: firsts[k],
-        count: counts[k],
-    }
+    stack.layers[k]
 }
 
 fn no_layer() -> Layer
@@ -161,7 +134,7 @@ fn stops_at(layer: Layer, end: usize) -> bool
 
 // Whether entry `k` starts where the one before stops, and the first at point 0.
 fn starts_right(stack: Stack, k: usize) -> bool
-    requires { ⌜ (k < stack .layers) × (stack .layers ≤ 20) ⌝ }
+    requires { ⌜ (k < stack .count) × (stack .count ≤ 20) ⌝ }
     ensures { λ r. ⌜ Tells (entry (laid stack) k .first ≡ start (laid stack) k) r ⌝ }
 {
     let layer = layer_at(stack, k);
@@ -174,10 +147,10 @@ fn starts_right(stack: Stack, k: usize) -> bool
 
 // Whether entry `k`, if it is the last, stops at the list's end.
 fn ends_right(stack: Stack, points: usize, k: usize) -> bool
-    requires { ⌜ (k < stack .layers) × (stack .layers ≤ 20) ⌝ }
-    ensures { λ r. ⌜ Tells (suc k ≡ stack .layers → stop (entry (laid stack) k) ≡ points) r ⌝ }
+    requires { ⌜ (k < stack .count) × (stack .count ≤ 20) ⌝ }
+    ensures { λ r. ⌜ Tells (suc k ≡ stack .count → stop (entry (laid stack) k) ≡ points) r ⌝ }
 {
-    if k + 1 == stack.layers {
+    if k + 1 == stack.count {
         stops_at(layer_at(stack, k), points)
     } else {
         true
@@ -186,7 +159,7 @@ fn ends_right(stack: Stack, points: usize, k: usize) -> bool
 
 // Whether entry `k` breaks the stack rule.
 fn breaks(stack: Stack, coords: &[i32], k: usize) -> bool
-    requires { ⌜ (k < stack .layers) × (stack .layers ≤ 20) ⌝ }
+    requires { ⌜ (k < stack .count) × (stack .count ≤ 20) ⌝ }
     ensures { λ r. ⌜ Tells (Breaks (laid stack) (now (coords .entry)) k) r ⌝ }
 {
     !(starts_right(stack, k) & ends_right(stack, coords.len() / 2, k))
@@ -194,10 +167,10 @@ fn breaks(stack: Stack, coords: &[i32], k: usize) -> bool
 
 // The lowest entry that breaks the stack rule, or the number of layers.
 fn first_break(stack: Stack, coords: &[i32]) -> usize
-    requires { ⌜ stack .layers ≤ 20 ⌝ }
+    requires { ⌜ stack .count ≤ 20 ⌝ }
     ensures { λ r. ⌜ FirstPlace (Breaks (laid stack) (now (coords .entry))) (length (laid stack)) r ⌝ }
 {
-    let layers = stack.layers;
+    let layers = stack.count;
     let mut k = 0;
     while k < layers {
         if breaks(stack, coords, k) {
@@ -220,7 +193,7 @@ fn judge_traces(stack: Stack, coords: &[i32]) -> StackJudgement
     requires { ⌜ LayersRight (laid stack) × Spanned (laid stack) (now coords) ⌝ }
     ensures { λ r. ⌜ StackJudged (laid stack) (now (coords .entry)) r ⌝ }
 {
-    let layers = stack.layers;
+    let layers = stack.count;
     let mut k = 0;
     while k < layers {
         let judged = judge_layer(stack, coords, k);
@@ -234,7 +207,7 @@ fn judge_traces(stack: Stack, coords: &[i32]) -> StackJudgement
 
 // Whether the plane of layer `k` is outside its range, or not above the one below. Layer 0 has none below.
 fn plane_wrong(stack: Stack, k: usize) -> bool
-    requires { ⌜ (k < stack .layers) × (stack .layers ≤ 20) ⌝ }
+    requires { ⌜ (k < stack .count) × (stack .count ≤ 20) ⌝ }
     ensures { λ r. ⌜ Tells (PlaneFault (laid stack) k) r ⌝ }
 {
     let layer = layer_at(stack, k);
@@ -247,10 +220,10 @@ fn plane_wrong(stack: Stack, k: usize) -> bool
 
 // The lowest layer whose plane is at fault, or the number of layers.
 fn first_plane_wrong(stack: Stack) -> usize
-    requires { ⌜ stack .layers ≤ 20 ⌝ }
+    requires { ⌜ stack .count ≤ 20 ⌝ }
     ensures { λ r. ⌜ FirstPlace (PlaneFault (laid stack)) (length (laid stack)) r ⌝ }
 {
-    let layers = stack.layers;
+    let layers = stack.count;
     let mut k = 0;
     while k < layers {
         if plane_wrong(stack, k) {
@@ -268,11 +241,8 @@ fn judge_planes(stack: Stack, coords: &[i32]) -> StackJudgement
     ensures { λ r. ⌜ StackJudged (laid stack) (now (coords .entry)) r ⌝ }
 {
     let low = first_plane_wrong(stack);
-    if low < stack.layers {
-        return StackJudgement::Refused(Refusal {
-            fault: Fault::Planes,
-            place: low,
-        });
+    if low < stack.count {
+        return StackJudgement::Refused(refuse(Fault::Planes, low));
     }
     StackJudgement::Fit {
         points: coords.len() / 2,
@@ -290,10 +260,10 @@ fn add_up_to(sum: usize, more: usize, most: usize) -> usize
 
 // The steps of all bands, cut off at `most`.
 fn steps_up_to(stack: Stack, most: usize) -> usize
-    requires { ⌜ stack .layers ≤ 20 ⌝ }
+    requires { ⌜ stack .count ≤ 20 ⌝ }
     ensures { λ r. ⌜ r ≡ min (steps (laid stack)) most ⌝ }
 {
-    let layers = stack.layers;
+    let layers = stack.count;
     let mut sum = 0;
     let mut k = 0;
     while k + 1 < layers {
@@ -305,7 +275,7 @@ fn steps_up_to(stack: Stack, most: usize) -> usize
 
 // The steps of band `k` added, up to `most`.
 fn with_band(stack: Stack, k: usize, sum: usize, most: usize) -> usize
-    requires { ⌜ (suc k < stack .layers) × (stack .layers ≤ 20) × (sum ≤ most) ⌝ }
+    requires { ⌜ (suc k < stack .count) × (stack .count ≤ 20) × (sum ≤ most) ⌝ }
     ensures { λ r. ⌜ r ≡ min (sum + (entry (laid stack) k .count + entry (laid stack) (suc k) .count)) most ⌝ }
 {
     let lower = layer_at(stack, k);
@@ -313,29 +283,20 @@ fn with_band(stack: Stack, k: usize, sum: usize, most: usize) -> usize
     add_up_to(add_up_to(sum, lower.count, most), upper.count, most)
 }
 
-// Takes every stack and every slice. A stack of over 20 layers has entries that are not handed in here: STRIP at 0. The steps are
-// added up to one past the slice's length, which is enough to see that they do not fill it.
+// Takes every stack and every slice: LAYERS, then STRIP. The steps are added up to one past the slice's length, which is enough to see
+// that they do not fill it.
 pub fn judge_strips(stack: Stack, strips: &[u8]) -> StripsJudgement
-    ensures { λ r. ⌜ ((es : List Layer) → Gathers stack es → StripsAnswered es (now (strips .entry)) r) ⌝ }
+    ensures { λ r. ⌜ StripsJudged (laid stack) (now (strips .entry)) r ⌝ }
 {
-    if 20 < stack.layers {
-        return StripsJudgement::Refused(Refusal {
-            fault: Fault::Strip,
-            place: 0,
-        });
+    if (stack.count < 2) | (20 < stack.count) {
+        return StripsJudgement::Refused(refuse(Fault::Layers, 0));
     }
     if steps_up_to(stack, strips.len() + 1) != strips.len() {
-        return StripsJudgement::Refused(Refusal {
-            fault: Fault::Strip,
-            place: 0,
-        });
+        return StripsJudgement::Refused(refuse(Fault::Strip, 0));
     }
     let wrong = first_band_wrong(stack, strips);
-    if wrong + 1 < stack.layers {
-        return StripsJudgement::Refused(Refusal {
-            fault: Fault::Strip,
-            place: wrong,
-        });
+    if wrong + 1 < stack.count {
+        return StripsJudgement::Refused(refuse(Fault::Strip, wrong));
     }
     StripsJudgement::Whole
 }
@@ -363,7 +324,7 @@ pub fn is_strip(part: &[u8], m: usize, n: usize) -> bool
 
 // Whether the part of band `k`, which begins at `at`, is a strip.
 fn band_right(stack: Stack, strips: &[u8], k: usize, at: usize) -> bool
-    requires { ⌜ (suc k < stack .layers) × (stack .layers ≤ 20) × (at ≡ bandStart (laid stack) k)
+    requires { ⌜ (suc k < stack .count) × (stack .count ≤ 20) × (at ≡ bandStart (laid stack) k)
         × (length (now strips) ≡ steps (laid stack)) ⌝ }
     ensures { λ r. ⌜ Tells (BandStrip (laid stack) (now (strips .entry)) k) r ⌝ }
 {
@@ -375,11 +336,11 @@ fn band_right(stack: Stack, strips: &[u8], k: usize, at: usize) -> bool
 
 // The lowest band whose part is no strip, or the number of bands. All steps fill the slice, so `at` is never cut off.
 fn first_band_wrong(stack: Stack, strips: &[u8]) -> usize
-    requires { ⌜ (stack .layers ≤ 20) × (length (now strips) ≡ steps (laid stack)) ⌝ }
+    requires { ⌜ (stack .count ≤ 20) × (length (now strips) ≡ steps (laid stack)) ⌝ }
     ensures { λ r. ⌜ Sought (BandStrip (laid stack) (now (strips .entry))) (BandFault (laid stack) (now (strips .entry)))
         (length (laid stack) - 1) r ⌝ }
 {
-    let layers = stack.layers;
+    let layers = stack.count;
     let mut at = 0;
     let mut k = 0;
     while k + 1 < layers {

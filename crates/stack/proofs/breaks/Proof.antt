@@ -15,7 +15,7 @@ ends-right-requires c κs = search needs
 returns : tie.Need-returns
 returns c =
     let a = c .before .before .args in
-    breaks-tells (laid (a .stack)) (a .coords .now) (a .k) (a .stack .layers) (laid-long (a .stack)) (c .before .starts-right .ensures)
+    breaks-tells (laid (a .stack)) (a .coords .now) (a .k) (a .stack .count) (laid-long (a .stack)) (c .before .starts-right .ensures)
     (c .ends-right .ensures)
 
 pub breaks-spec : {M : Type 1} → statement M

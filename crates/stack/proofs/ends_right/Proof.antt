@@ -18,7 +18,7 @@ returns : tie.Need-returns
 returns c =
     let a = c .before .before .before .before .args in
     let layer = c .before .layer-at in
-    ends-last (laid (a .stack)) (a .k) (a .stack .layers) (a .points) (layer .result) (c .before .before .if1 .taken) (layer .ensures)
+    ends-last (laid (a .stack)) (a .k) (a .stack .count) (a .points) (layer .result) (c .before .before .if1 .taken) (layer .ensures)
     (c .stops-at .ensures)
 
 returns-2 : tie.Need-returns-2
