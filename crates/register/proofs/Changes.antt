@@ -14,23 +14,19 @@ use Rattle.blocks.specs.declared.BlocksJudgement.the-variants as blocks-are
 use Rattle.blocks.proofs.BlockLaws.{exchangedBlocks}
 use Rattle.blocks.proofs.Cases.{blocks-single, blocks-open, blocks-stopped}
 use Rattle.blocks.proofs.Changes.{exchanged, one-byte-refused, two-bytes-refused, two-blocks-refused}
-use Rattle.register.specs.declared.ReadBack.{ReadBack}
-use Rattle.register.specs.declared.ReadBack.the-variants as read-is
-use Rattle.register.specs.Reading.{Lent, ReadAnswer}
+use Rattle.register.specs.declared.FileRead.{FileRead}
+use Rattle.register.specs.Reading.{Lent, lost, ReadAnswer}
 use Rattle.register.specs.Reading as read
-use Rattle.register.proofs.RoundTrip.{IsFile, blocksIn, file-sound}
-
--- refused with CHECK at block b, every lent number as it was
-pub record Caught (g : List ℕ) (b : ℕ) : Type 0 where
-  pub refused : {x y : Lent} {r : ReadBack} → ReadAnswer g x y r → (r ≡ read-is.Refused (at Check b)) × (y ≡ x)
+use Rattle.register.specs.Accepted.{IsFile, Caught}
+use Rattle.register.proofs.RoundTrip.{blocksIn, file-sound}
 
 caught : (g : List ℕ) (b : ℕ) → BlocksJudged g (blocks-are.Refused (at Check b)) → Caught g b
 caught g b j = record { refused = of }
   where
-    of : {x y : Lent} {r : ReadBack} → ReadAnswer g x y r → (r ≡ read-is.Refused (at Check b)) × (y ≡ x)
-    of (read.refused {r = r} (inl k)) = (ap read-is.Refused (blocks-single r (at Check b) k (blocks-stopped j)), refl)
-    of (read.refused (inr k)) = absurd (k .0 (at Check b) (blocks-stopped j))
-    of (read.whole s t a i k) = absurd (blocks-open s (at Check b) (blocks-stopped j))
+    of : {x y : Lent} {r : FileRead} → ReadAnswer g x y r → (r ≡ lost (at Check b)) × (y ≡ x)
+    of (read.ReadAnswer.refused {r = r} (inl k)) = (ap lost (blocks-single r (at Check b) k (blocks-stopped j)), refl)
+    of (read.ReadAnswer.refused (inr k)) = absurd (k .0 (at Check b) (blocks-stopped j))
+    of (read.ReadAnswer.held h _) = absurd (blocks-open (h .sound) (at Check b) (blocks-stopped j))
 
 -- an accepted file is sound
 pub record SoundFile (f : List ℕ) : Type 0 where
@@ -39,8 +35,8 @@ pub record SoundFile (f : List ℕ) : Type 0 where
 
 pub sound-file : {f : List ℕ} → IsFile f → SoundFile f
 sound-file w = record {
-  n = blocksIn (w .stack) (w .strips);
-  sound = subst (λ (g : List ℕ). Sound g (blocksIn (w .stack) (w .strips))) (w .same) (file-sound (w .stack) (w .strips));
+  n = blocksIn (w .file .stack) (w .file .strips);
+  sound = subst (λ (g : List ℕ). Sound g (blocksIn (w .file .stack) (w .file .strips))) (w .file .same) (file-sound (w .file .stack) (w .file .strips));
 }
 
 module _ {f : List ℕ} (file : IsFile f) where

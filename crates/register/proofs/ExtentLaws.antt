@@ -14,7 +14,7 @@ use Rattle.stack.specs.declared.Layer.{Layer}
 use Rattle.stack.specs.declared.Stack.{Stack}
 use Rattle.stack.specs.Entries.{entry, stop, steps}
 use Rattle.stack.specs.Laid.{laid}
-use Rattle.stack.proofs.Laying.{laid-only}
+use Rattle.stack.proofs.Laying.{counted, laid-of}
 use Rattle.register.specs.Stored.{layersIn}
 use Rattle.register.specs.Decoding.{countHere, past, numbers, coordsFrom, layersOf, coordsOf, stepsAt}
 use Rattle.register.specs.Answering.{contentsEnd, Ended, Layered}
@@ -59,28 +59,31 @@ coords-of-few k b = coords-few (layersIn k) (bytes-drop 2 b)
 -- ---- the lowest layer and the highest
 
 pub record Extended (k : List ℕ) (st : Stack) (low top : Layer) : Type 0 where
-  pub two : 2 ≤ st .layers
-  pub twenty : st .layers ≤ 20
-  pub place : stepsAt k ≡ 2 + 6 * st .layers + 4 * length (coordsOf k)
+  pub two : 2 ≤ st .count
+  pub twenty : st .count ≤ 20
+  pub place : stepsAt k ≡ 2 + 6 * st .count + 4 * length (coordsOf k)
   pub ends : 2 * (top .first + top .count) ≡ length (coordsOf k)
   pub sum : steps (layersOf k) + low .count + top .count ≡ length (coordsOf k)
   pub small : length (coordsOf k) ≤ 2621400
 
 module _ {k : List ℕ} {st : Stack} (g : Layered k st) where
-  pub layered-many : st .layers ≡ layersIn k
-  layered-many = sym (g .gathers .long) ∙ layers-of-long k
+  pub layered-many : st .count ≡ layersIn k
+  layered-many = ap (λ (s : Stack). s .count) (g .stack) ∙ counted (layersOf k) ∙ layers-of-long k
 
-  pub layered-laid : layersOf k ≡ laid st
-  layered-laid = laid-only st (layersOf k) (omega (arith, layered-many, g .layers .twenty)) (g .gathers)
+  few : length (layersOf k) ≤ 20
+  few = omega (arith, layers-of-long k, g .layers .twenty)
 
-  pub extended : {low top : Layer} → Bytes k → low ≡ entry (laid st) 0 → top ≡ entry (laid st) (st .layers - 1) → Extended k st low top
+  pub layered-laid : laid st ≡ layersOf k
+  layered-laid = ap laid (g .stack) ∙ laid-of (layersOf k) few
+
+  pub extended : {low top : Layer} → Bytes k → low ≡ entry (laid st) 0 → top ≡ entry (laid st) (st .count - 1) → Extended k st low top
   extended {low} {top} b p q =
       let es : List Layer = layersOf k in
-      let long : length es ≡ st .layers = g .gathers .long in
+      let long : length es ≡ st .count = layers-of-long k ∙ sym layered-many in
       let some : 2 ≤ length es = omega (arith, layered-many, g .layers .two) in
-      let first : low ≡ entry es 0 = p ∙ ap (λ (l : List Layer). entry l 0) (sym layered-laid) in
+      let first : low ≡ entry es 0 = p ∙ ap (λ (l : List Layer). entry l 0) layered-laid in
       let last : top ≡ entry es (length es - 1) =
-      q ∙ ap₂ (λ (l : List Layer) (n : ℕ). entry l (n - 1)) (sym layered-laid) (sym long) in
+      q ∙ ap₂ (λ (l : List Layer) (n : ℕ). entry l (n - 1)) layered-laid (sym long) in
       let end : 2 * stop (entry es (length es - 1)) ≡ length (coordsOf k) = chain-ends (chain-of k) (length es - 1) (omega arith) in
       let all = steps-by es (chain-of k) (omega arith) in
       record {

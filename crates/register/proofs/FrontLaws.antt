@@ -1,20 +1,17 @@
--- Writing the coordinates at the front of a lent slice, layer by layer, where the part behind what is written is lent on; and a field of
--- each layer. Assumes nothing.
+-- Writing the coordinates at the front of a lent slice, layer by layer, where the part behind what is written is lent on. Assumes nothing.
 use mathlib.Core.Path.{_≡_, refl, sym, ap, ap₂, _∙_}
-use mathlib.Core.List.{List, [], _++_, append-assoc, append-nil, map}
+use mathlib.Core.List.{List, [], _++_, append-assoc, append-nil}
 use Prim.Native.Nat.{ℕ, zero, suc, _+_, _*_, _-_, _≤_, _<_}
 use native.Mathlib.Numerals.{add-one}
 use native.Mathlib.Omega.{arith}
 use lib.IntN.{ℤ}
-use lib.ListN.{length, getD, drop, length-append, List·getD-map}
+use lib.ListN.{length, drop, length-append}
 use lib.Seq.{drop-drop}
 use Rattle.whole.specs.Filled.{Filled}
 use Rattle.whole.proofs.Filling.{behind, back, filled-more, back-long}
 use Rattle.register.specs.Decoding.{numbers, countHere, past, coordsFrom, placeOf}
 use Rattle.register.proofs.DecodeLaws.{numbers-long}
 use Rattle.register.proofs.GatherLaws.{place-next}
-use Rattle.stack.specs.Entries.{noLayer, entry}
-use Rattle.stack.specs.declared.Layer.{Layer}
 
 -- ---- the coordinates, layer by layer
 
@@ -103,9 +100,3 @@ module _ {contents : List ℕ} {n k first : ℕ} {old new : List ℤ} (s : Coord
       let all : coordsFrom n (drop 2 contents) ≡ s .done =
       s .rest ∙ ap (λ (i : ℕ). s .done ++ coordsFrom i (drop (placeOf k first) contents)) none ∙ append-nil (s .done) in
       rw all (s .written)
-
--- ---- a field of each layer
-
--- the field of layer k, by the entry that a stack has there
-pub field-at : {A : Type 0} (f : Layer → A) (es : List Layer) (k : ℕ) {e : Layer} → e ≡ entry es k → f e ≡ getD (map f es) k (f noLayer)
-field-at f es k q = ap f q ∙ sym (List·getD-map f es k noLayer)

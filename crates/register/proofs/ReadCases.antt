@@ -1,105 +1,86 @@
--- From what the steps of reading find to the cases of 01's order, for every sound file with these contents; and the five slices filled.
--- Assumes nothing.
-use mathlib.Core.Path.{_≡_, sym, ap, ap₂, _∙_, subst}
+-- From what the steps of reading find to the cases of 01's order: the contents decoded, for every sound file with these contents, and what
+-- they hold handed over. Assumes nothing.
+use mathlib.Core.Path.{_≡_, refl, sym, ap, ap₂, _∙_, subst}
 use mathlib.Core.Bool.{true, false, _||_}
-use mathlib.Core.List.{List, _++_, map}
+use mathlib.Core.Logic.{inl, inr}
+use mathlib.Core.List.{List}
 use Prim.Native.Nat.{ℕ, _+_, _*_, _-_, _/_, _≤_, _<_}
 use native.Mathlib.Omega.{arith}
 use lib.Dec.{ltb}
 use lib.IntN.{ℤ}
-use lib.ListN.{length, take, drop, length-map}
+use lib.ListN.{length, take, drop, length-take}
 use lib.Seq.{take-at}
 use borrow.Author.Tests.{ltb-false, le-ltb}
+use Rattle.whole.specs.Filled.{Filled}
 use Rattle.whole.proofs.TestLaws.{true≢false, or-false}
 use Rattle.fault.specs.declared.Refusal.{Refusal}
-use Rattle.fault.specs.declared.Fault.the-variants.{Layers, Content, Room}
-use Rattle.fault.specs.Gates.{at}
-use Rattle.stack.specs.declared.Layer.{Layer}
+use Rattle.fault.specs.Gates.{Stopped}
 use Rattle.stack.specs.declared.Stack.{Stack}
-use Rattle.stack.specs.declared.StackJudgement.{StackJudgement}
-use Rattle.stack.specs.declared.StackJudgement.the-variants as stack-is
-use Rattle.stack.specs.declared.StripsJudgement.{StripsJudgement}
-use Rattle.stack.specs.declared.StripsJudgement.the-variants as strips-are
 use Rattle.stack.specs.Entries.{steps}
-use Rattle.stack.specs.Faults.{AcceptedStack, StackJudged}
-use Rattle.stack.specs.Strips.{StripsRight, StripsJudged}
-use Rattle.stack.specs.Laid.{laid}
-use Rattle.stack.specs.Refusals.{stackRefusal, stripsRefusal}
-use Rattle.stack.proofs.Told.{OfStack, OfStrips, stack-refused, stack-fit, strips-refused, strips-right}
+use Rattle.stack.specs.Faults.{AcceptedStack}
+use Rattle.stack.specs.Strips.{StripsRight}
+use Rattle.stack.specs.Laid.{laid, stackOf}
+use Rattle.stack.proofs.Laying.{laid-long, laid-of}
+use Rattle.blocks.specs.Blocks.{contentsOf}
 use Rattle.blocks.specs.Faults.{Sound, BlocksJudged}
 use Rattle.blocks.specs.declared.BlocksJudgement.{BlocksJudgement}
 use Rattle.blocks.specs.declared.BlocksJudgement.the-variants as blocks-are
 use Rattle.blocks.proofs.Exact.{sound-exactly}
-use Rattle.register.specs.declared.ReadBack.{ReadBack}
+use Rattle.blocks.proofs.Cases.{blocks-open, blocks-stopped}
+use Rattle.register.specs.declared.FileRead.{FileRead}
 use Rattle.register.specs.declared.ReadBack.the-variants as read-is
+use Rattle.register.specs.declared.form_one.Decoded.{Decoded}
+use Rattle.register.specs.declared.form_one.Content.the-variants.{Right, Wrong}
 use Rattle.register.specs.declared.judging.Extent.{Extent}
-use Rattle.register.specs.Stored.{Stored, layersIn, LayersIn, ContentFault}
+use Rattle.register.specs.Stored.{Stored, layersIn, LayersIn}
 use Rattle.register.specs.Decoding.{twoOf, layersFrom, coordsFrom, layersOf, coordsOf, stripsOf, StoredHere}
-use Rattle.register.specs.Reading.{Lent, lent, EnoughFor, filled, ReadAnswer, whole}
-use Rattle.register.proofs.ReadGates.{blocks, layers, content, stack, room, strips}
-use Rattle.whole.specs.Filled.{Filled}
-use Rattle.register.specs.Answering.{contentsEnd, Layered, Ready, ReadFrom, blocksRefusal}
-use Rattle.stack.specs.Gathered.{Gathers}
+use Rattle.register.specs.Reading.{Lent, lent, EnoughFor, lost, HandedOver, inFile, contentGates, ReadAnswer}
+use Rattle.register.specs.Reading as read
+use Rattle.register.specs.Answering.{contentsEnd, Layered, Reaches, Decodes, right, wrong, ReadFrom}
 use Rattle.register.proofs.StoredLaws.{layers-in-two, stored-ended}
-use Rattle.register.proofs.ExtentLaws.{layered-laid, layered-many, steps-at}
-
--- ---- the cases
-
-stored-of : {k m : List ℕ} → m ≡ k → StoredHere k → Stored m (layersOf k) (coordsOf k) (stripsOf k)
-stored-of {k} e s = subst (λ (m : List ℕ). Stored m (layersOf k) (coordsOf k) (stripsOf k)) (sym e) s
-
-module _ {k : List ℕ} {x : Lent} {r : ReadBack} where
-  pub layers-wrong : (LayersIn k → ⊥) → r ≡ read-is.Refused (at Layers 0) → ReadFrom k x x r
-  layers-wrong wrong q =
-      rw q (record { answer = λ f n s e. layers s (λ l. wrong (subst LayersIn e l)) })
-
-  pub content-wrong : LayersIn k → ContentFault k → r ≡ read-is.Refused (at Content 0) → ReadFrom k x x r
-  content-wrong l c q =
-      rw q (record { answer = λ f n s e. content s (subst LayersIn (sym e) l) (subst ContentFault (sym e) c) })
-
-  pub no-room : StoredHere k → AcceptedStack (layersOf k) (coordsOf k) → (EnoughFor (layersOf k) (coordsOf k) (stripsOf k) x → ⊥)
-      → r ≡ read-is.Refused (at Room 0) → ReadFrom k x x r
-  no-room st a short q = rw q (record { answer = λ f n s e. room s (stored-of e st) a short })
-
-pub stack-wrong : {k : List ℕ} {x : Lent} {r : Refusal} → LayersIn k → StoredHere k → StackJudged (layersOf k) (coordsOf k) (stack-is.Refused r)
-    → ReadFrom k x x (read-is.Refused r)
-stack-wrong l st j = record { answer = λ f n s e. stack s (stored-of e st) (subst LayersIn (sym e) l) j }
-
-pub strips-wrong : {k : List ℕ} {x : Lent} {r : Refusal} → StoredHere k → AcceptedStack (layersOf k) (coordsOf k)
-    → EnoughFor (layersOf k) (coordsOf k) (stripsOf k) x → StripsJudged (layersOf k) (stripsOf k) (strips-are.Refused r)
-    → ReadFrom k x x (read-is.Refused r)
-strips-wrong st a en j = record { answer = λ f n s e. strips s (stored-of e st) a en j }
-
-pub all-read : {k : List ℕ} {x x′ : Lent} {a b c : ℕ} → StoredHere k → AcceptedStack (layersOf k) (coordsOf k)
-    → EnoughFor (layersOf k) (coordsOf k) (stripsOf k) x → StripsRight (layersOf k) (stripsOf k)
-    → x′ ≡ filled (layersOf k) (coordsOf k) (stripsOf k) x → a ≡ length (layersOf k) → b ≡ length (coordsOf k) / 2 → c ≡ length (stripsOf k)
-    → ReadFrom k x x′ (read-is.Whole a b c)
-all-read {k} {x} {x′} {a} {b} {c} st ac en ri q ea eb ec =
-    rw (q, ea, eb, ec) (record { answer = λ f n s e. whole s (stored-of e st) ac en ri })
+use Rattle.register.proofs.ExtentLaws.{layers-of-long, layered-many, steps-at}
 
 -- ---- the number of layers
 
-two-layers : (k : List ℕ) {n : ℕ} → n ≡ twoOf k → n ≡ layersIn k
-two-layers k e = e ∙ sym (layers-in-two k)
-
 module _ (k : List ℕ) {n : ℕ} (e : n ≡ twoOf k) where
-  pub under-two : n < 2 → LayersIn k → ⊥
-  under-two h l = omega (arith, two-layers k e, l .two)
+  is-two : n ≡ layersIn k
+  is-two = e ∙ sym (layers-in-two k)
 
-  pub over-twenty : 20 < n → LayersIn k → ⊥
-  over-twenty h l = omega (arith, two-layers k e, l .twenty)
+  pub not-layers : (ltb n 2 || ltb 20 n) ≡ true → LayersIn k → ⊥
+  not-layers t l =
+      true≢false (sym t ∙ ap₂ _||_ (le-ltb n 2 (omega (arith, is-two, l .two))) (le-ltb 20 n (omega (arith, is-two, l .twenty))))
 
-  pub layers-right : 2 ≤ n → n ≤ 20 → LayersIn k
-  layers-right a b = record { two = omega (arith, two-layers k e); twenty = omega (arith, two-layers k e) }
+  pub some-layers : (ltb n 2 || ltb 20 n) ≡ false → LayersIn k
+  some-layers t =
+      let both : (ltb n 2 ≡ false) × (ltb 20 n ≡ false) = or-false _ _ t in
+      record { two = omega (arith, is-two, ltb-false n 2 (both .0)); twenty = omega (arith, is-two, ltb-false 20 n (both .1)) }
 
-  pub layered : {st : Stack} → 2 ≤ n → n ≤ 20 → Gathers st (layersFrom n 0 (drop 2 k)) → Layered k st
+  pub few-layers : (ltb n 2 || ltb 20 n) ≡ false → n ≤ 20
+  few-layers t = omega (arith, is-two, some-layers t .twenty)
+
+  pub layered : {st : Stack} → (ltb n 2 || ltb 20 n) ≡ false → st ≡ stackOf (layersFrom n 0 (drop 2 k)) → Layered k st
   unfolding layersOf
-  layered {st} a b g = record {
-    layers = layers-right a b;
-    gathers = subst (λ (m : ℕ). Gathers st (layersFrom m 0 (drop 2 k))) (two-layers k e) g;
+  layered t s = record {
+    layers = some-layers t;
+    stack = s ∙ ap (λ (m : ℕ). stackOf (layersFrom m 0 (drop 2 k))) is-two;
   }
 
--- ---- what there is room for
+  -- the coordinates by the number of layers
+  pub coords-by : coordsFrom n (drop 2 k) ≡ coordsOf k
+  unfolding coordsOf
+  coords-by = ap (λ (m : ℕ). coordsFrom m (drop 2 k)) is-two
+
+-- ---- the contents are in order
+
+pub record Ready (k : List ℕ) (st : Stack) (e : Extent) : Type 0 where
+  pub layered : Layered k st
+  pub reaches : Reaches k e
+  pub few : length k ≤ 49784
+  pub stored : StoredHere k
+
+-- what was filled stands at the front
+front : {A : Type 0} {v old new : List A} → Filled v old new → take (length v) new ≡ v
+front {v = v} {old} w = ap (take (length v)) (w .filled) ∙ take-at v (drop (length v) old) (length v) refl
 
 module _ {k : List ℕ} {st : Stack} {e : Extent} (d : Ready k st e) where
   pub steps-long : e .end - e .from ≡ length (stripsOf k)
@@ -124,106 +105,102 @@ module _ {k : List ℕ} {st : Stack} {e : Extent} (d : Ready k st e) where
       let long : e .end - e .from ≡ steps (layersOf k) = omega (arith, d .reaches .from, d .reaches .end) in
       ap₂ (λ (a b : ℕ). take a (drop b k)) long (d .reaches .from)
 
-  pub layers-long : st .layers ≡ length (layersOf k)
-  layers-long = sym (d .layered .gathers .long)
+  pub decoded : {c c′ v : List ℤ} {l l′ : List ℕ} → v ≡ coordsOf k → Filled v c c′
+      → Filled (take (e .end - e .from) (drop (e .from) k)) l l′
+      → Decodes k c′ l′ (record { stack = st; points = e .points; steps = e .end - e .from; content = Right })
+  decoded {c} {c′} {v} {l} {l′} q wc wl =
+      let half : e .points ≡ length (coordsOf k) / 2 = omega (arith, d .reaches .points) in
+      rw (d .layered .stack, half, steps-long)
+      (right (d .layered .layers) (d .stored)
+      (subst (λ (v : List ℤ). take (length v) c′ ≡ v) q (front wc))
+      (subst (λ (v : List ℕ). take (length v) l′ ≡ v) strips-here (front wl)))
 
-  pub layers-few : st .layers ≤ 20
-  layers-few = omega (arith, layered-many (d .layered), d .layered .layers .twenty)
+-- ---- what was decoded
 
-  -- the coordinates by the number of layers
-  pub coords-by : coordsFrom (st .layers) (drop 2 k) ≡ coordsOf k
-  unfolding coordsOf
-  coords-by = ap (λ (n : ℕ). coordsFrom n (drop 2 k)) (layered-many (d .layered))
+taken : {A : Type 0} (l v : List A) → take (length v) l ≡ v → length v ≤ length l
+taken l v e = omega (arith, length-take (length v) l, ap length e)
 
-  -- the room that the code asks for
-  pub enough : {p : List ℤ} {f n : List ℕ} {c : List ℤ} {l : List ℕ} → st .layers ≤ length p → st .layers ≤ length f → st .layers ≤ length n
-      → 2 * e .points ≤ length c → e .end - e .from ≤ length l → EnoughFor (layersOf k) (coordsOf k) (stripsOf k) (lent p f n c l)
-  enough a b g h i = record {
-    forPlanes = omega (arith, layers-long);
-    forFirsts = omega (arith, layers-long);
-    forCounts = omega (arith, layers-long);
-    forCoords = omega (arith, d .reaches .points);
-    forStrips = omega (arith, steps-long);
+module _ {k : List ℕ} {c : List ℤ} {l : List ℕ} where
+  -- both stand inside what they were decoded into
+  pub points-inside : {d : Decoded} → Decodes k c l d → 2 * d .points ≤ length c
+  points-inside (wrong _) = omega arith
+  points-inside (right _ s p q) = omega (arith, taken c (coordsOf k) p)
+
+  pub steps-inside : {d : Decoded} → Decodes k c l d → d .steps ≤ length l
+  steps-inside (wrong _) = omega arith
+  steps-inside (right _ s p q) = taken l (stripsOf k) q
+
+  pub by-value : {d : Decoded} → Decodes k c l d → d .content ≡ Right → d .stack ≡ stackOf (laid (d .stack))
+  by-value (wrong _) e = absurd (let z : _≡_ {A = ℕ} 0 1 = cc in omega arith)
+  by-value (right i s p q) e = ap stackOf (sym (laid-of (layersOf k) (omega (arith, layers-of-long k, i .twenty))))
+
+  pub not-decoded : {d : Decoded} {x : Lent} {r : Refusal} → Decodes k c l d → d .content ≡ Wrong r → ReadFrom k x x (lost r)
+  not-decoded {r = r} (wrong {r = q} w) e = record {
+    answer = λ f s i. read.ReadAnswer.refused (inr (blocks-open s, subst (λ (m : List ℕ). Stopped (contentGates m) r) (sym i) (rw (same e) w)));
   }
-
-  -- the slices filled, one after another
-  pub all-filled : {p p′ c c′ : List ℤ} {f f′ n n′ l l′ : List ℕ} → Filled (map (λ (e : Layer). e .plane) (laid st)) p p′
-      → Filled (map (λ (e : Layer). e .first) (laid st)) f f′ → Filled (map (λ (e : Layer). e .count) (laid st)) n n′
-      → Filled (coordsFrom (st .layers) (drop 2 k)) c c′ → Filled (take (e .end - e .from) (drop (e .from) k)) l l′
-      → lent p′ f′ n′ c′ l′ ≡ filled (layersOf k) (coordsOf k) (stripsOf k) (lent p f n c l)
-  all-filled {p} {p′} {c} {c′} {f} {f′} {n} {n′} {l} {l′} wp wf wn wc wl =
-      same (mapped (λ (e : Layer). e .plane) wp) (mapped (λ (e : Layer). e .first) wf) (mapped (λ (e : Layer). e .count) wn)
-      (subst (λ (x : List ℤ). c′ ≡ x ++ drop (length x) c) coords-by (wc .filled))
-      (subst (λ (x : List ℕ). l′ ≡ x ++ drop (length x) l) strips-here (wl .filled))
     where
-      mapped : {A : Type 0} (g : Layer → A) {a b : List A} → Filled (map g (laid st)) a b
-          → b ≡ map g (layersOf k) ++ drop (length (layersOf k)) a
-      mapped {A} g {a} {b} w =
-          w .filled ∙ ap (λ (n : ℕ). map g (laid st) ++ drop n a) (length-map (laid st) g)
-          ∙ ap (λ (es : List Layer). map g es ++ drop (length es) a) (sym (layered-laid (d .layered)))
+      same : Wrong q ≡ Wrong r → r ≡ q
+      same e = cc
+  not-decoded (right i s p q) e = absurd (let z : _≡_ {A = ℕ} 0 1 = cc in omega arith)
 
-      same : {q r d d′ : List ℤ} {g h m m′ s s′ : List ℕ} → q ≡ r → g ≡ h → m ≡ m′ → d ≡ d′ → s ≡ s′
-          → lent q g m d s ≡ lent r h m′ d′ s′
-      same {q} {r} {d} {d′} {g} {h} {m} {m′} {s} {s′} u v w y z =
-          ap (λ (q : List ℤ). lent q g m d s) u ∙ ap (λ (g : List ℕ). lent r g m d s) v ∙ ap (λ (m : List ℕ). lent r h m d s) w
-          ∙ ap (λ (d : List ℤ). lent r h m′ d s) y ∙ ap (lent r h m′ d′) z
+  pub handed : {d : Decoded} {x y : Lent} {r : FileRead} → Decodes k c l d → d .content ≡ Right
+      → HandedOver (laid (d .stack)) (take (2 * d .points) c) (take (d .steps) l) x y r → ReadFrom k x y r
+  handed (wrong _) e o = absurd (let z : _≡_ {A = ℕ} 0 1 = cc in omega arith)
+  handed {x = x} {y} {r} (right i s p q) e o = record {
+    answer = λ f sound is. read.ReadAnswer.held
+        (record {
+          sound = sound;
+          layers = subst LayersIn (sym is) i;
+          stored = subst (λ (m : List ℕ). Stored m (layersOf k) (coordsOf k) (stripsOf k)) (sym is) s;
+        })
+        here;
+  }
+    where
+      all : 2 * (length (coordsOf k) / 2) ≡ length (coordsOf k)
+      all = omega (arith, s .spanned .even)
 
--- ---- tests put together
+      here : HandedOver (layersOf k) (coordsOf k) (stripsOf k) x y r
+      here = rw (sym p, sym q, sym all, sym (laid-of (layersOf k) (omega (arith, layers-of-long k, i .twenty)))) o
 
-pub short-three : (a b c n : ℕ) → (ltb a n || ltb b n || ltb c n) ≡ true → n ≤ a → n ≤ b → n ≤ c → ⊥
-short-three a b c n t p q r =
-    true≢false (sym t ∙ ap₂ _||_ (ap₂ _||_ (le-ltb a n p) (le-ltb b n q)) (le-ltb c n r))
+-- ---- the room
 
-pub short-two : (a n b m : ℕ) → (ltb a n || ltb b m) ≡ true → n ≤ a → m ≤ b → ⊥
-short-two a n b m t p q = true≢false (sym t ∙ ap₂ _||_ (le-ltb a n p) (le-ltb b m q))
+module _ (st : Stack) (room : ℕ) (c old : List ℤ) (l bytes : List ℕ) where
+  pub short : (ltb room (st .count) || ltb (length old) (length c) || ltb (length bytes) (length l)) ≡ true
+      → EnoughFor (laid st) c l (lent room old bytes) → ⊥
+  short t e =
+      true≢false (sym t ∙ ap₂ _||_ (ap₂ _||_ (le-ltb room (st .count) (omega (arith, laid-long st, e .forEntries)))
+      (le-ltb (length old) (length c) (e .forCoords))) (le-ltb (length bytes) (length l) (e .forStrips)))
 
-pub long-two : (a n b m : ℕ) → (ltb a n || ltb b m) ≡ false → (n ≤ a) × (m ≤ b)
-long-two a n b m t =
-    let both : (ltb a n ≡ false) × (ltb b m ≡ false) = or-false (ltb a n) (ltb b m) t in
-    (ltb-false a n (both .0), ltb-false b m (both .1))
+  pub enough : (ltb room (st .count) || ltb (length old) (length c) || ltb (length bytes) (length l)) ≡ false
+      → EnoughFor (laid st) c l (lent room old bytes)
+  enough t =
+      let both = or-false (ltb room (st .count) || ltb (length old) (length c)) (ltb (length bytes) (length l)) t in
+      let two = or-false (ltb room (st .count)) (ltb (length old) (length c)) (both .0) in
+      record {
+        forEntries = omega (arith, laid-long st, ltb-false room (st .count) (two .0));
+        forCoords = ltb-false (length old) (length c) (two .1);
+        forStrips = ltb-false (length bytes) (length l) (both .1);
+      }
 
-pub long-three : (a b c n : ℕ) → (ltb a n || ltb b n || ltb c n) ≡ false → ((n ≤ a) × (n ≤ b)) × (n ≤ c)
-long-three a b c n t =
-    let both : ((ltb a n || ltb b n) ≡ false) × (ltb c n ≡ false) = or-false (ltb a n || ltb b n) (ltb c n) t in
-    (long-two a n b n (both .0), ltb-false c n (both .1))
-
--- ---- what the judgements tell
-
-module _ {k : List ℕ} {st : Stack} {e : Extent} (d : Ready k st e) where
-  pub stack-told : {c : List ℤ} {j : StackJudgement} {q r : Refusal} → c ≡ coordsOf k → OfStack st c j → j ≡ stack-is.Refused q → r ≡ stackRefusal j
-      → StackJudged (layersOf k) (coordsOf k) (stack-is.Refused r)
-  stack-told {r = r} q o t u =
-      subst (λ (c : List ℤ). StackJudged (layersOf k) c (stack-is.Refused r)) q (stack-refused o t u (layersOf k) (d .layered .gathers))
-
-  pub stack-accepted : {c : List ℤ} {j : StackJudgement} {points n : ℕ} → c ≡ coordsOf k → OfStack st c j → j ≡ stack-is.Fit points n
-      → AcceptedStack (layersOf k) (coordsOf k)
-  stack-accepted q o t = subst (AcceptedStack (layersOf k)) q (stack-fit o t (layersOf k) (d .layered .gathers))
-
-  pub strips-told : {j : StripsJudgement} {q r : Refusal} → OfStrips st (take (e .end - e .from) (drop (e .from) k)) j → j ≡ strips-are.Refused q
-      → r ≡ stripsRefusal j → AcceptedStack (layersOf k) (coordsOf k) → StripsJudged (layersOf k) (stripsOf k) (strips-are.Refused r)
-  strips-told {r = r} o t u a =
-      subst (λ (l : List ℕ). StripsJudged (layersOf k) l (strips-are.Refused r)) (strips-here d)
-      (strips-refused o t u (layersOf k) (d .layered .gathers) a)
-
-  pub strips-accepted : {j : StripsJudgement} → OfStrips st (take (e .end - e .from) (drop (e .from) k)) j → j ≡ strips-are.Whole
-      → AcceptedStack (layersOf k) (coordsOf k) → StripsRight (layersOf k) (stripsOf k)
-  strips-accepted o t a = subst (StripsRight (layersOf k)) (strips-here d) (strips-right o t (layersOf k) (d .layered .gathers) a)
-
-  pub points-half : e .points ≡ length (coordsOf k) / 2
-  points-half = omega (arith, d .reaches .points)
-
-  -- what is judged are the coordinates of the contents
-  pub judged-coords : {old new : List ℤ} → Filled (coordsFrom (st .layers) (drop 2 k)) old new → take (2 * e .points) new ≡ coordsOf k
-  judged-coords {old} {new} w =
-      let long : length (coordsOf k) ≡ 2 * e .points = omega (arith, d .reaches .points) in
-      ap (take (2 * e .points)) (subst (λ (x : List ℤ). new ≡ x ++ drop (length x) old) (coords-by d) (w .filled))
-      ∙ take-at (coordsOf k) (drop (length (coordsOf k)) old) (2 * e .points) long
+  pub all-handed : {old′ : List ℤ} {bytes′ : List ℕ} → st ≡ stackOf (laid st) → AcceptedStack (laid st) c
+      → EnoughFor (laid st) c l (lent room old bytes) → StripsRight (laid st) l → Filled c old old′ → Filled l bytes bytes′
+      → HandedOver (laid st) c l (lent room old bytes) (lent room old′ bytes′)
+      (record { stack = st; answer = read-is.Whole (length c / 2) (length l) })
+  all-handed {old′} {bytes′} v a e s wc wl =
+      subst (λ (t : Stack). HandedOver (laid st) c l (lent room old bytes) (lent room old′ bytes′)
+      (record { stack = t; answer = read-is.Whole (length c / 2) (length l) })) (sym v)
+      (rw (wc .filled, wl .filled) (read.HandedOver.whole a e s))
 
 -- ---- the blocks
 
 module _ {f : List ℕ} {j : BlocksJudgement} (told : BlocksJudged f j) where
-  pub blocks-told : {x : Lent} {q r : Refusal} → j ≡ blocks-are.Refused q → r ≡ blocksRefusal j → ReadAnswer f x x (read-is.Refused r)
-  blocks-told t u = blocks (subst (BlocksJudged f) (t ∙ ap blocks-are.Refused (sym (u ∙ ap blocksRefusal t))) told)
+  pub blocks-told : {x : Lent} {r : Refusal} → j ≡ blocks-are.Refused r → ReadAnswer f x x (lost r)
+  blocks-told t = read.ReadAnswer.refused (inl (blocks-stopped (subst (BlocksJudged f) t told)))
 
   pub blocks-sound : {n : ℕ} → j ≡ blocks-are.Sound n → Sound f n
   blocks-sound t = sound-exactly .0 (subst (BlocksJudged f) t told)
+
+pub read-from : {f k : List ℕ} {n : ℕ} {x y : Lent} {r : FileRead} → Sound f n → ReadFrom k x y r → contentsOf n f ≡ k → ReadAnswer f x y r
+read-from {f} {k} {n} s a e =
+    let is : n ≡ length f / 512 = omega (arith, s .blocks .whole) in
+    a .answer f (subst (Sound f) is s) (ap (λ (m : ℕ). contentsOf m f) (sym is) ∙ e)

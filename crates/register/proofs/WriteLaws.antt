@@ -1,6 +1,6 @@
 -- What `write` has in hand at each of its returns: an accepted stack has at most 5,000 points, so that its contents fit 98 blocks; and
 -- what is sealed is the file. Assumes nothing.
-use mathlib.Core.Path.{_≡_, refl, sym, ap, _∙_, subst}
+use mathlib.Core.Path.{_≡_, refl, sym, ap, _∙_}
 use mathlib.Core.List.{List}
 use Prim.Native.Nat.{ℕ, zero, suc, _+_, _*_, _/_, _≤_}
 use native.Mathlib.Omega.{arith}
@@ -17,10 +17,9 @@ use Rattle.stack.specs.Entries.{start}
 use Rattle.stack.specs.Faults.{AcceptedStack, StackJudged}
 use Rattle.stack.specs.Strips.{StripsRight}
 use Rattle.stack.specs.Laid.{laid}
-use Rattle.stack.proofs.Exact.{fit-exactly}
-use Rattle.stack.proofs.Laying.{laid-long, laid-gathers}
+use Rattle.stack.proofs.Laying.{laid-long}
 use Rattle.stack.proofs.StackLaws.{accepted-first, accepted-end, accepted-count, accepted-steps}
-use Rattle.stack.proofs.Told.{OfStack}
+use Rattle.stack.proofs.Told.{stack-fit, stack-points, stack-steps}
 use Rattle.blocks.specs.Blocks.{blocksFor}
 use Rattle.blocks.specs.declared.Sealing.{Sealing}
 use Rattle.blocks.specs.declared.Sealing.the-variants as sealing-is
@@ -67,15 +66,12 @@ pub record Sized (st : Stack) (c : List ℤ) (long : ℕ) : Type 0 where
   pub accepted : AcceptedStack (laid st) c
   pub is : long ≡ contentsLong (laid st) c
 
-pub sized : {st : Stack} {c : List ℤ} {j : StackJudgement} {points n : ℕ} → OfStack st c j → j ≡ stack-is.Fit points n
-    → Sized st c (2 + 6 * st .layers + 8 * points + n)
+pub sized : {st : Stack} {c : List ℤ} {j : StackJudgement} {points n : ℕ} → StackJudged (laid st) c j → j ≡ stack-is.Fit points n
+    → Sized st c (2 + 6 * st .count + 8 * points + n)
 unfolding contentsLong
-sized {st} {c} {points = points} {n = n} s e =
-    let f = fit-exactly points n .0 (subst (StackJudged (laid st) c) e (s (laid st) (laid-gathers st))) in
-    record {
-      accepted = f .0;
-      is = omega (arith, f .1, f .2, laid-long st, f .0 .spanned .even);
-    }
+sized {st} s e =
+    let a = stack-fit s e in
+    record { accepted = a; is = omega (arith, stack-points s e, stack-steps s e, laid-long st, a .spanned .even) }
 
 -- the room that the code asks for is the file's
 pub asked : {st : Stack} {c : List ℤ} {long : ℕ} → Sized st c long → 512 * ((long + 507) / 508) ≡ fileLong (laid st) c

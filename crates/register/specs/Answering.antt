@@ -1,23 +1,23 @@
--- Inner: what the steps of reading hand on to each other. No public contract cites this file.
+-- Inner: what the steps of reading hand on to each other. No public contract cites this file; `ContentWrong` is 01's clauses, to which
+-- CONTENT is held by a theorem (proofs/Content.antt).
 use mathlib.Core.Path.{_≡_}
-use mathlib.Core.List.{List}
-use Prim.Native.Nat.{ℕ, _+_, _*_, _-_, _≤_, _<_}
-use lib.ListN.{length, drop, replicate}
+use mathlib.Core.List.{List, []}
+use Prim.Native.Nat.{ℕ, _+_, _*_, _-_, _/_, _≤_, _<_}
+use lib.IntN.{ℤ}
+use lib.ListN.{length, take, drop, replicate}
 use Rattle.fault.specs.declared.Refusal.{Refusal}
-use Rattle.fault.specs.declared.Fault.the-variants.{Block}
-use Rattle.fault.specs.Gates.{at}
+use Rattle.fault.specs.Gates.{Stopped}
 use Rattle.stack.specs.declared.Stack.{Stack}
 use Rattle.stack.specs.Entries.{steps}
-use Rattle.stack.specs.Gathered.{Gathers}
-use Rattle.blocks.specs.Blocks.{contentsOf}
+use Rattle.stack.specs.Laid.{stackOf}
 use Rattle.blocks.specs.Faults.{Sound}
-use Rattle.blocks.specs.declared.BlocksJudgement.{BlocksJudgement}
-use Rattle.blocks.specs.declared.BlocksJudgement.the-variants as blocks-are
-use Rattle.register.specs.declared.ReadBack.{ReadBack}
+use Rattle.register.specs.declared.FileRead.{FileRead}
+use Rattle.register.specs.declared.form_one.Decoded.{Decoded}
+use Rattle.register.specs.declared.form_one.Content.the-variants.{Right, Wrong}
 use Rattle.register.specs.declared.judging.Extent.{Extent}
 use Rattle.register.specs.Stored.{LayersIn}
-use Rattle.register.specs.Decoding.{layersOf, coordsOf, stepsAt, StoredHere}
-use Rattle.register.specs.Reading.{Lent, ReadAnswer}
+use Rattle.register.specs.Decoding.{layersOf, coordsOf, stripsOf, stepsAt, StoredHere}
+use Rattle.register.specs.Reading.{Lent, inFile, contentGates, ReadAnswer}
 
 -- where the steps end
 unfoldable pub contentsEnd : List ℕ → ℕ
@@ -35,10 +35,10 @@ pub data ContentWrong (k : List ℕ) : Type 0 where
   fewer : contentsEnd k + 508 ≤ length k → ContentWrong k
   filler : (drop (contentsEnd k) k ≡ replicate (length k - contentsEnd k) 0 → ⊥) → ContentWrong k
 
--- the layers of the contents k, gathered
+-- the layers of the contents k, by value
 pub record Layered (k : List ℕ) (st : Stack) : Type 0 where
   pub layers : LayersIn k
-  pub gathers : Gathers st (layersOf k)
+  pub stack : st ≡ stackOf (layersOf k)
 
 -- how far the contents k reach by the counts of their layers
 pub record Reaches (k : List ℕ) (x : Extent) : Type 0 where
@@ -47,18 +47,18 @@ pub record Reaches (k : List ℕ) (x : Extent) : Type 0 where
   pub end : x .end ≡ contentsEnd k
   pub small : x .end ≤ 40000000
 
--- the contents k are in order
-pub record Ready (k : List ℕ) (st : Stack) (x : Extent) : Type 0 where
-  pub layered : Layered k st
-  pub reaches : Reaches k x
-  pub few : length k ≤ 49784
-  pub stored : StoredHere k
+-- what decoding the contents k leaves in the coordinates c and the steps l: LAYERS or CONTENT; or what they hold, each at the front
+pub data Decodes (k : List ℕ) (c : List ℤ) (l : List ℕ) : Decoded → Type 0 where
+  wrong : {r : Refusal} → Stopped (contentGates k) r
+      → Decodes k c l (record { stack = stackOf []; points = 0; steps = 0; content = Wrong r })
+  right : LayersIn k → StoredHere k → take (length (coordsOf k)) c ≡ coordsOf k → take (length (stripsOf k)) l ≡ stripsOf k
+      → Decodes k c l (record {
+        stack = stackOf (layersOf k);
+        points = length (coordsOf k) / 2;
+        steps = length (stripsOf k);
+        content = Right;
+      })
 
 -- the answer for every sound file with the contents k
-pub record ReadFrom (k : List ℕ) (x x′ : Lent) (r : ReadBack) : Type 0 where
-  pub answer : (f : List ℕ) (n : ℕ) → Sound f n → contentsOf n f ≡ k → ReadAnswer f x x′ r
-
--- The refusal that a judgement of blocks carries. (Sound blocks have none: what stands for them is not asked for.)
-abbrev pub blocksRefusal : BlocksJudgement → Refusal
-blocksRefusal (blocks-are.Refused r) = r
-blocksRefusal (blocks-are.Sound n) = at Block 0
+pub record ReadFrom (k : List ℕ) (x y : Lent) (r : FileRead) : Type 0 where
+  pub answer : (f : List ℕ) → Sound f (length f / 512) → inFile f ≡ k → ReadAnswer f x y r

@@ -3,6 +3,7 @@ pub mod Contents
 pub mod Stored
 pub mod Writing
 pub mod Reading
+pub mod Accepted
+pub mod Status
 pub mod Decoding
-pub mod Gathering
 pub mod Answering

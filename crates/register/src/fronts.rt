@@ -1,15 +1,10 @@
-// What was read, at the front of the slices that are lent; the rest of each stays.
-ghost use mathlib.Core.List.{map};
+// Numbers and bytes, at the front of the slice that is lent; the rest of it stays.
 ghost use Prim.Native.Nat.{_+_, _*_, _≤_};
 ghost use lib.ListN.{length, drop};
-ghost use Rattle.stack.specs.declared.Layer.{Layer};
-ghost use Rattle.stack.specs.Laid.{laid};
 ghost use Rattle.register.specs.Decoding.{numbers, coordsFrom};
 ghost use Rattle.whole.specs.Filled.{Filled};
 use crate::decoding::layer_here;
 use crate::decoding::number_at;
-use stack::Stack;
-use stack::layer_at;
 
 // `many` numbers, from `at` on.
 fn put_numbers(contents: &[u8], at: usize, many: usize, out: &mut [i32])
@@ -41,42 +36,15 @@ pub(crate) fn put_coords(contents: &[u8], layers: usize, out: &mut [i32])
     }
 }
 
-pub(crate) fn put_planes(stack: Stack, out: &mut [i32])
-    requires { ⌜ (stack .layers ≤ 20) × (stack .layers ≤ length (now out)) ⌝ }
-    ensures { λ _. ⌜ Filled (map (λ (e : Layer). e .plane) (laid stack)) (now (out .entry)) (now (out .exit)) ⌝ }
+// Numbers as they stand.
+pub(crate) fn copy_numbers(numbers: &[i32], out: &mut [i32])
+    requires { ⌜ length (now numbers) ≤ length (now out) ⌝ }
+    ensures { λ _. ⌜ Filled (now (numbers .entry)) (now (out .entry)) (now (out .exit)) ⌝ }
 {
-    let layers = stack.layers;
     let mut k = 0;
-    while k < layers {
-        let layer = layer_at(stack, k);
-        let plane = layer.plane;
-        out[k] = plane;
-        k += 1;
-    }
-}
-
-pub(crate) fn put_firsts(stack: Stack, out: &mut [usize])
-    requires { ⌜ (stack .layers ≤ 20) × (stack .layers ≤ length (now out)) ⌝ }
-    ensures { λ _. ⌜ Filled (map (λ (e : Layer). e .first) (laid stack)) (now (out .entry)) (now (out .exit)) ⌝ }
-{
-    let layers = stack.layers;
-    let mut k = 0;
-    while k < layers {
-        let layer = layer_at(stack, k);
-        out[k] = layer.first;
-        k += 1;
-    }
-}
-
-pub(crate) fn put_counts(stack: Stack, out: &mut [usize])
-    requires { ⌜ (stack .layers ≤ 20) × (stack .layers ≤ length (now out)) ⌝ }
-    ensures { λ _. ⌜ Filled (map (λ (e : Layer). e .count) (laid stack)) (now (out .entry)) (now (out .exit)) ⌝ }
-{
-    let layers = stack.layers;
-    let mut k = 0;
-    while k < layers {
-        let layer = layer_at(stack, k);
-        out[k] = layer.count;
+    while k < numbers.len() {
+        let number = numbers[k];
+        out[k] = number;
         k += 1;
     }
 }

@@ -19,7 +19,7 @@ pub(crate) fn extent_of(contents: &[u8], stack: Stack) -> Extent
     requires { ⌜ Layered (now contents) stack ⌝ }
     ensures { λ r. ⌜ Reaches (now (contents .entry)) r ⌝ }
 {
-    let layers = stack.layers;
+    let layers = stack.count;
     let low = layer_at(stack, 0);
     let top = layer_at(stack, layers - 1);
     let points = top.first + top.count;

@@ -1,25 +1,28 @@
 // The register file: a stack with its strips written as blocks, and read back.
 ghost use mathlib.Core.Path.{_≡_};
-ghost use mathlib.Core.List.{List};
+ghost use Prim.Native.Nat.{_≤_};
 ghost use lib.ListN.{length};
-ghost use Rattle.fault.specs.Gates.{at};
-ghost use Rattle.stack.specs.declared.Layer.{Layer};
-ghost use Rattle.stack.specs.Gathered.{Gathers};
+ghost use Rattle.stack.specs.Faults.{AcceptedStack};
+ghost use Rattle.stack.specs.Strips.{StripsRight};
+ghost use Rattle.stack.specs.Laid.{laid};
+ghost use Rattle.register.specs.Contents.{contentsLong};
 ghost use Rattle.register.specs.Reading.{lent, ReadAnswer};
-ghost use Rattle.register.specs.Writing.{WriteAnswer};
+ghost use Rattle.register.specs.Writing.{fileLong, WriteAnswer};
 use crate::putting::put_contents;
-use crate::reading::blocks_refusal;
+use crate::reading::lost;
 use crate::reading::read_contents;
 use blocks::BlocksJudgement;
 use blocks::Sealing;
 use blocks::seal;
 use fault::Fault;
 use fault::Refusal;
+use fault::refuse;
 use stack::Stack;
 use stack::StackJudgement;
 use stack::StripsJudgement;
 
 mod decoding;
+mod form_one;
 mod fronts;
 mod gathering;
 mod judging;
@@ -33,13 +36,15 @@ pub enum Written {
 }
 
 pub enum ReadBack {
-    // The number of layers, of points, and of steps of all bands.
-    Whole {
-        layers: usize,
-        points: usize,
-        steps: usize,
-    },
+    // The number of points, and of steps of all bands.
+    Whole { points: usize, steps: usize },
     Refused(Refusal),
+}
+
+// What a file holds: its layers by value, none if it is refused, and the answer. (An enum cannot hold an array.)
+pub struct FileRead {
+    pub stack: Stack,
+    pub answer: ReadBack,
 }
 
 // No contents yet: room for those of 98 blocks.
@@ -52,21 +57,27 @@ fn no_contents() -> [u8; 49784]
 // Takes every stack and every slice. The room is held against the stack alone, before the strips are looked at, and nothing is written
 // before they are judged.
 pub fn write(stack: Stack, coords: &[i32], strips: &[u8], out: &mut [u8]) -> Written
-    ensures { λ r. ⌜ ((es : List Layer) → Gathers stack es
-        → WriteAnswer es (now (coords .entry)) (now (strips .entry)) (now (out .entry)) (now (out .exit)) r) ⌝ }
+    ensures { λ r. ⌜ WriteAnswer (laid stack) (now (coords .entry)) (now (strips .entry)) (now (out .entry)) (now (out .exit)) r ⌝ }
 {
-    let judged = stack::judge_stack(stack, coords);
-    let StackJudgement::Fit { points, steps } = judged else {
-        return Written::Refused(stack::stack_refusal(judged));
+    let long = match stack::judge_stack(stack, coords) {
+        StackJudgement::Fit { points, steps } => 2 + 6 * stack.count + 8 * points + steps,
+        StackJudgement::Refused(refusal) => return Written::Refused(refusal),
     };
-    let long = 2 + 6 * stack.layers + 8 * points + steps;
     if out.len() < 512 * ((long + 507) / 508) {
-        return no_room();
+        return Written::Refused(refuse(Fault::Room, 0));
     }
-    let judged = stack::judge_strips(stack, strips);
-    let StripsJudgement::Whole = judged else {
-        return Written::Refused(stack::strips_refusal(judged));
-    };
+    match stack::judge_strips(stack, strips) {
+        StripsJudgement::Whole => put_file(stack, coords, strips, long, out),
+        StripsJudgement::Refused(refusal) => Written::Refused(refusal),
+    }
+}
+
+// The contents of all that was judged, put together in memory of our own, and sealed.
+fn put_file(stack: Stack, coords: &[i32], strips: &[u8], long: usize, out: &mut [u8]) -> Written
+    requires { ⌜ AcceptedStack (laid stack) (now coords) × StripsRight (laid stack) (now strips)
+        × (long ≡ contentsLong (laid stack) (now coords)) × (fileLong (laid stack) (now coords) ≤ length (now out)) ⌝ }
+    ensures { λ r. ⌜ WriteAnswer (laid stack) (now (coords .entry)) (now (strips .entry)) (now (out .entry)) (now (out .exit)) r ⌝ }
+{
     let mut bytes = no_contents();
     put_contents(&mut bytes, stack, coords, strips);
     match seal(&bytes[..long], out) {
@@ -75,34 +86,17 @@ pub fn write(stack: Stack, coords: &[i32], strips: &[u8], out: &mut [u8]) -> Wri
     }
 }
 
-fn no_room() -> Written
-    ensures { λ r. ⌜ r ≡ Written.Refused (at Fault.Room 0) ⌝ }
+// Takes every file, room for any number of entries, and slices of every length. All blocks are judged before any content is looked at,
+// and nothing is written before all is judged.
+pub fn read(file: &[u8], room: usize, coords: &mut [i32], strips: &mut [u8]) -> FileRead
+    ensures { λ r. ⌜ ReadAnswer (now (file .entry)) (lent room (now (coords .entry)) (now (strips .entry)))
+        (lent room (now (coords .exit)) (now (strips .exit))) r ⌝ }
 {
-    Written::Refused(Refusal {
-        fault: Fault::Room,
-        place: 0,
-    })
-}
-
-// Takes every file, and slices of every length. All blocks are judged before any content is looked at, and nothing is written before
-// all is judged.
-pub fn read(
-    file: &[u8],
-    planes: &mut [i32],
-    firsts: &mut [usize],
-    counts: &mut [usize],
-    coords: &mut [i32],
-    strips: &mut [u8],
-) -> ReadBack
-    ensures { λ r. ⌜ ReadAnswer (now (file .entry))
-        (lent (now (planes .entry)) (now (firsts .entry)) (now (counts .entry)) (now (coords .entry)) (now (strips .entry)))
-        (lent (now (planes .exit)) (now (firsts .exit)) (now (counts .exit)) (now (coords .exit)) (now (strips .exit))) r ⌝ }
-{
-    let judged = blocks::judge_blocks(file);
-    let BlocksJudgement::Sound(number) = judged else {
-        return ReadBack::Refused(blocks_refusal(judged));
+    let number = match blocks::judge_blocks(file) {
+        BlocksJudgement::Sound(number) => number,
+        BlocksJudgement::Refused(refusal) => return lost(refusal),
     };
-    let bytes = blocks::contents(file);
+    let contents = blocks::contents(file);
     let end = 508 * number;
-    read_contents(&bytes[..end], planes, firsts, counts, coords, strips)
+    read_contents(&contents[..end], room, coords, strips)
 }

@@ -75,7 +75,7 @@ fn put_layer(out: &mut [u8], layer: Layer, trace: &[i32])
 
 // Layer `k`, and how many bytes it takes.
 fn put_layer_of(out: &mut [u8], stack: Stack, coords: &[i32], k: usize) -> usize
-    requires { ⌜ AcceptedStack (laid stack) (now coords) × (k < stack .layers)
+    requires { ⌜ AcceptedStack (laid stack) (now coords) × (k < stack .count)
         × (length (layerBytes (now coords) (entry (laid stack) k)) ≤ length (now out)) ⌝ }
     ensures { λ r. ⌜ (r ≡ length (layerBytes (now (coords .entry)) (entry (laid stack) k)))
         × Filled (layerBytes (now (coords .entry)) (entry (laid stack) k)) (now (out .entry)) (now (out .exit)) ⌝ }
@@ -91,7 +91,7 @@ fn put_layers(out: &mut [u8], stack: Stack, coords: &[i32]) -> usize
     ensures { λ r. ⌜ (r ≡ length (layersBytes (now (coords .entry)) (laid stack)))
         × Filled (layersBytes (now (coords .entry)) (laid stack)) (now (out .entry)) (now (out .exit)) ⌝ }
 {
-    let layers = stack.layers;
+    let layers = stack.count;
     let mut at = 0;
     let mut k = 0;
     while k < layers {
@@ -108,7 +108,7 @@ pub(crate) fn put_contents(out: &mut [u8], stack: Stack, coords: &[i32], strips:
     ensures { λ _. ⌜ Filled (contents (laid stack) (now (coords .entry)) (now (strips .entry))) (now (out .entry)) (now (out .exit)) ⌝ }
 {
     let first = 2;
-    put_two(out, stack.layers);
+    put_two(out, stack.count);
     let at = first + put_layers(&mut out[first..], stack, coords);
     put_bytes(strips, &mut out[at..]);
 }

@@ -3,3 +3,4 @@ pub mod Entries
 pub mod Faults
 pub mod Strips
 pub mod Laid
+pub mod Status

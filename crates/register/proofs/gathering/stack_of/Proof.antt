@@ -23,7 +23,7 @@ layer-here-requires : tie.Need-layer-here-requires Inv-loop μ-loop
 layer-here-requires c κs = (omega arith, c .before .loop .inv .few)
 
 with-layer-requires : tie.Need-with-layer-requires Inv-loop μ-loop
-with-layer-requires c κs = omega (arith, c .before .before .loop .inv .many)
+with-layer-requires c κs = search needs
 
 add-first : tie.Need-add-first Inv-loop μ-loop
 add-first c = omega (arith, c .before .before .before .before .loop .inv .few, c .before .before .layer-here .ensures .1)
@@ -37,7 +37,7 @@ loop-less c = omega arith
 loop-again : tie.Need-loop-again Inv-loop μ-loop
 loop-again c =
     let layer = c .before .before .layer-here .ensures in
-    gather-more (c .before .before .before .before .loop .inv) (omega arith) (layer .0) (layer .1) (c .before .with-layer .ensures)
+    gather-more (c .before .before .before .before .loop .inv) (omega arith) (omega arith) (layer .0) (layer .1) (c .before .with-layer .ensures)
 
 returns : tie.Need-returns Inv-loop μ-loop
 returns c = gather-done (c .before .loop .inv) (omega arith)

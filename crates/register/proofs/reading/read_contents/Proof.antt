@@ -1,61 +1,60 @@
--- `register::reading::read_contents` meets its contract: LAYERS, CONTENT, and then the stack that is held. Assumes nothing.
+-- `register::reading::read_contents` meets its contract: what is decoded is handed over, for every file with these contents. Assumes nothing.
+use mathlib.Core.Path.{sym}
+use Prim.Native.Nat.{_*_}
 use native.Mathlib.Omega.{arith}
-use borrow.Author.Tests.{not-true, not-false}
-use Rattle.whole.proofs.Telling.{told-not}
-use Rattle.register.specs.Answering.{Layered}
-use Rattle.register.proofs.StoredLaws.{ended-stored, not-held}
-use Rattle.register.proofs.ReadCases.{layers-wrong, content-wrong, under-two, over-twenty, layered}
+use lib.Seq.{length-take-le}
+use Rattle.register.proofs.ReadCases.{points-inside, steps-inside, by-value, not-decoded, handed}
 use borrow.Author.Needs.{needs}
 use Rattle.register.proofs.reading.read_contents.Statement.{statement}
 use Rattle.register.proofs.reading.read_contents.Tie as tie
 
-two-at-requires : tie.Need-two-at-requires
-two-at-requires c κs = search needs
+no-numbers-requires : tie.Need-no-numbers-requires
+no-numbers-requires c κs = search needs
 
-refused-requires : tie.Need-refused-requires
-refused-requires c κs = search needs
+no-steps-requires : tie.Need-no-steps-requires
+no-steps-requires c κs = search needs
 
-returns : tie.Need-returns
-returns c = layers-wrong (under-two (c .before .before .before .before .before .before .before .args .contents .now) (c .before .before .two-at .ensures .0) (omega arith)) (c .refused .ensures)
+slice-aggregate-decode : tie.Need-slice-aggregate-decode
+slice-aggregate-decode c = search needs
 
-refused-requires-2 : tie.Need-refused-requires-2
-refused-requires-2 c κs = search needs
+slice-aggregate-decode-2 : tie.Need-slice-aggregate-decode-2
+slice-aggregate-decode-2 c = search needs
 
-returns-2 : tie.Need-returns-2
-returns-2 c = layers-wrong (over-twenty (c .before .before .before .before .before .before .before .before .args .contents .now) (c .before .before .before .two-at .ensures .0) (omega arith)) (c .refused2 .ensures)
+decode-requires : tie.Need-decode-requires
+decode-requires c κs = search needs
 
-stack-of-requires : tie.Need-stack-of-requires
-stack-of-requires c κs = search needs
+mul-end : tie.Need-mul-end
+mul-end c =
+    let d = c .before .before .before .before .decode in
+    omega (arith, points-inside (d .ensures), d .kept .1 .0, c .before .before .before .before .before .before .before .before .no-numbers .ensures)
 
--- the layers, gathered
-gathered : (c : tie.After-stack-of) → Layered (c .before .before .before .before .before .before .before .before .args .contents .now) (c .stack-of .result)
-gathered c = layered (c .before .before .before .before .before .before .before .before .args .contents .now) (c .before .before .before .two-at .ensures .0) (omega arith) (omega arith) (c .stack-of .ensures)
+enum-told : tie.Need-enum-told
+enum-told c = search needs
 
-extent-of-requires : tie.Need-extent-of-requires
-extent-of-requires c κs = gathered c
+array-share-prefix-numbers : tie.Need-array-share-prefix-numbers
+array-share-prefix-numbers c = points-inside (c .before .before .before .before .before .before .decode .ensures)
 
-content-right-requires : tie.Need-content-right-requires
-content-right-requires c κs = search needs
+slice-aggregate-hand-over : tie.Need-slice-aggregate-hand-over
+slice-aggregate-hand-over c =
+    let d = c .before .before .before .before .before .before .before .decode in
+    sym (length-take-le (2 * d .result .points) (d .last .1 .0) (points-inside (d .ensures)))
 
-refused-requires-3 : tie.Need-refused-requires-3
-refused-requires-3 c κs = search needs
+array-share-prefix-bytes : tie.Need-array-share-prefix-bytes
+array-share-prefix-bytes c = steps-inside (c .before .before .before .before .before .before .before .decode .ensures)
 
-returns-3 : tie.Need-returns-3
-returns-3 c =
-    let g = gathered (c .before .before .before .before) in
-    content-wrong (g .layers) (not-held (omega (arith, g .layers .two)) (told-not (c .before .before .content-right .ensures) (not-true _ (c .before .if3 .taken))))
-    (c .refused3 .ensures)
+slice-aggregate-hand-over-2 : tie.Need-slice-aggregate-hand-over-2
+slice-aggregate-hand-over-2 c =
+    let d = c .before .before .before .before .before .before .before .before .decode in
+    sym (length-take-le (d .result .steps) (d .last .1 .1 .0) (steps-inside (d .ensures)))
 
-read-stack-requires : tie.Need-read-stack-requires
-read-stack-requires c κs =
-    let s = c .before .before .before .before .before .before .before .before .before .before .before .before .before .before .before .before in record {
-      layered = gathered (c .before .before .before .before .before .before .before .before);
-      reaches = c .before .before .before .before .before .before .before .extent-of .ensures;
-      few = s .pre;
-      stored =
-          ended-stored (record { each = λ i. omega (arith, c .before .before .before .before .before .before .before .before .before .before .before .before .before .before .before .shared-slice-known .given i) })
-          (c .before .before .before .before .before .before .content-right .ensures .yes (not-false _ (c .before .before .before .before .before .if3 .left)));
-    }
+hand-over-requires : tie.Need-hand-over-requires
+hand-over-requires c κs = by-value (c .before .before .before .before .before .before .before .before .before .before .decode .ensures) (c .before .before .before .before .enum-told .given .1)
+
+enum-known-content : tie.Need-enum-known-content
+enum-known-content c = search needs
+
+lost-requires : tie.Need-lost-requires
+lost-requires c κs = search needs
 
 same-length : tie.Need-same-length
 same-length c = search needs
@@ -63,36 +62,33 @@ same-length c = search needs
 same-length-2 : tie.Need-same-length-2
 same-length-2 c = search needs
 
-same-length-3 : tie.Need-same-length-3
-same-length-3 c = search needs
+returns : tie.Need-returns
+returns c =
+    let told = c .before .before .before .before .before .before .before .before in
+    handed (told .before .before .before .before .before .before .decode .ensures) (told .enum-told .given .1) (c .before .before .before .hand-over .ensures)
 
-same-length-4 : tie.Need-same-length-4
-same-length-4 c = search needs
-
-same-length-5 : tie.Need-same-length-5
-same-length-5 c = search needs
-
-returns-4 : tie.Need-returns-4
-returns-4 c = search needs
+returns-2 : tie.Need-returns-2
+returns-2 c = rw (c .lost .ensures) (not-decoded (c .before .before .before .before .before .before .before .before .decode .ensures) (c .before .before .content .given .1))
 
 pub read-contents-spec : {M : Type 1} → statement M
 read-contents-spec =
     tie.close
     (tie.spec
-    two-at-requires
-    refused-requires
-    returns
-    refused-requires-2
-    returns-2
-    stack-of-requires
-    extent-of-requires
-    content-right-requires
-    refused-requires-3
-    returns-3
-    read-stack-requires
+    no-numbers-requires
+    no-steps-requires
+    slice-aggregate-decode
+    slice-aggregate-decode-2
+    decode-requires
+    mul-end
+    enum-told
+    array-share-prefix-numbers
+    slice-aggregate-hand-over
+    array-share-prefix-bytes
+    slice-aggregate-hand-over-2
+    hand-over-requires
+    enum-known-content
+    lost-requires
     same-length
     same-length-2
-    same-length-3
-    same-length-4
-    same-length-5
-    returns-4)
+    returns
+    returns-2)
