@@ -1,4 +1,4 @@
--- One trace, in 01's words: its points and twice its area, its six faults, the judgement, and its number and place.
+-- One trace, in 01's words: its points and twice its area, its six faults, the judgement, and its status.
 pub mod Points
 pub mod Faults
 pub mod Judged
