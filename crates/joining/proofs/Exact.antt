@@ -21,7 +21,7 @@ use Rattle.strip.specs.declared.Valued.{Valued}
 use Rattle.strip.specs.declared.Valued.the-variants as Valued
 use Rattle.joining.specs.declared.Followed.{Followed}
 use Rattle.joining.specs.declared.Followed.the-variants as Followed
-use Rattle.joining.specs.Answers.{Between, NextOf, NoneLeftOf, HandedIn, stripBytes, Given, Cleared, Untouched, bestGates, nextGates, BestAnswer, best, NextAnswer, next, noneLeft}
+use Rattle.joining.specs.Answers.{NextOf, NoneLeftOf, HandedIn, stripBytes, Given, Cleared, Untouched, bestGates, nextGates, BestAnswer, best, NextAnswer, next, noneLeft}
 use Rattle.joining.specs.Answers as Answers
 use Rattle.joining.specs.declared.Run.{Run}
 use Rattle.joining.specs.declared.Run.the-variants as Run
