@@ -19,7 +19,7 @@ use Rattle.ways.proofs.Unique.{first-unique}
 use Rattle.strip.specs.Worth.{worths}
 use Rattle.strip.specs.Bytes.{bytes}
 use Rattle.joining.specs.Answers.{FirstOf, Untouched}
-use Rattle.joining.proofs.Exact.{Same}
+use Rattle.joining.specs.Outcomes.{Same}
 use Rattle.stack.specs.declared.Layer.{Layer}
 use Rattle.stack.specs.declared.Stack.{Stack}
 use Rattle.stack.specs.Entries.{entry, traceOf, steps, bandStart}

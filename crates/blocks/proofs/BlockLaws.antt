@@ -6,6 +6,7 @@ use native.Mathlib.Omega.{arith}
 use lib.ListN.{length, getD, take, drop, set, length-append, length-take, length-drop}
 use lib.Seq.{take-at, drop-at, take-append-le, drop-append-le, take-take, length-take-le, take-set-le, take-set-lt, drop-set-add, getD-take, getD-drop}
 use Rattle.blocks.specs.Blocks.{blockAt}
+use Rattle.blocks.specs.Exchanged.{withBlock}
 use Rattle.blocks.proofs.TailLaws.{drop-take}
 
 pub block-at : (f : List ℕ) (b i : ℕ) → i < 512 → getD (blockAt f b) i 0 ≡ getD f (512 * b + i) 0
@@ -28,13 +29,6 @@ block-before f c i v h =
     ap (λ (k : ℕ). take 512 (drop (512 * c) (set f k v))) is
     ∙ ap (take 512) (drop-set-add (512 * c) f (i - 512 * c) v)
     ∙ take-set-le 512 (drop (512 * c) f) (i - 512 * c) v (omega arith)
-
--- a file with x for block b
-unfoldable pub withBlock : List ℕ → ℕ → List ℕ → List ℕ
-withBlock f b x = take (512 * b) f ++ x ++ drop (512 * suc b) f
-
-unfoldable pub exchangedBlocks : List ℕ → ℕ → ℕ → List ℕ
-exchangedBlocks f b c = withBlock (withBlock f b (blockAt f c)) c (blockAt f b)
 
 module _ (f : List ℕ) (b : ℕ) (x : List ℕ) (h : 512 * suc b ≤ length f) (long : length x ≡ 512) where
   front-long : length (take (512 * b) f) ≡ 512 * b

@@ -12,13 +12,14 @@ use Rattle.fault.specs.Gates.{at}
 use Rattle.whole.specs.Lowest.{Lowest}
 use Rattle.blocks.specs.declared.BlocksJudgement.the-variants as blocks-are
 use Rattle.blocks.specs.Blocks.{checkOf, two, tailOf, blockAt, contentsAt}
+use Rattle.blocks.specs.Exchanged.{exchanged, withBlock, exchangedBlocks}
 use Rattle.blocks.specs.Faults.{WholeBlocks, CheckFault, Sound, BlocksJudged, sound}
 use Rattle.blocks.proofs.Cases.{check}
 use Rattle.blocks.proofs.OpenLaws.{less-or-not}
 use Rattle.blocks.proofs.Exact.{judged-unique}
 use Rattle.blocks.proofs.RoundTrip.{Right, sound-right, right-fault, wrong-fault}
 use Rattle.blocks.proofs.ChangeLaws.{byte-changed, bytes-exchanged, one-place}
-use Rattle.blocks.proofs.BlockLaws.{block-at, block-past, block-set, block-before, withBlock, exchangedBlocks, with-long, with-here, with-below, block-whole}
+use Rattle.blocks.proofs.BlockLaws.{block-at, block-past, block-set, block-before, with-long, with-here, with-below, block-whole}
 
 -- ---- the refusal
 
@@ -86,10 +87,6 @@ module _ {f : List ℕ} {n : ℕ} (s : Sound f n) (i v : ℕ) (inside : i < leng
   one-byte-changed = not-sound one-byte-refused
 
 -- ---- two bytes exchanged
-
--- a list with what stands at i and at j exchanged
-unfoldable pub exchanged : List ℕ → ℕ → ℕ → List ℕ
-exchanged f i j = set (set f i (getD f j 0)) j (getD f i 0)
 
 exchanged-turned : (f : List ℕ) (i j : ℕ) → (i ≡ j → ⊥) → exchanged f j i ≡ exchanged f i j
 unfolding exchanged

@@ -10,4 +10,4 @@ mod CopyLaws
 mod SealLaws
 mod OpenLaws
 mod ChangeLaws
-pub mod BlockLaws
+mod BlockLaws

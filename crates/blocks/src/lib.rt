@@ -10,6 +10,7 @@ use crate::opening::open_all;
 use crate::writing::put_blocks;
 use fault::Fault;
 use fault::Refusal;
+use fault::refuse;
 
 mod check;
 mod copying;
@@ -45,10 +46,7 @@ pub fn judge_blocks(file: &[u8]) -> BlocksJudgement
     }
     let wrong = first_wrong(file, blocks);
     if wrong < blocks {
-        return BlocksJudgement::Refused(Refusal {
-            fault: Fault::Check,
-            place: wrong,
-        });
+        return BlocksJudgement::Refused(refuse(Fault::Check, wrong));
     }
     BlocksJudgement::Sound(blocks)
 }
@@ -56,10 +54,7 @@ pub fn judge_blocks(file: &[u8]) -> BlocksJudgement
 fn no_blocks() -> BlocksJudgement
     ensures { λ r. ⌜ r ≡ BlocksJudgement.Refused (at Fault.Block 0) ⌝ }
 {
-    BlocksJudgement::Refused(Refusal {
-        fault: Fault::Block,
-        place: 0,
-    })
+    BlocksJudgement::Refused(refuse(Fault::Block, 0))
 }
 
 // The contents of 98 blocks, one after the other. Takes every file: what it does not have is 0.
@@ -94,5 +89,5 @@ pub fn seal(contents: &[u8], out: &mut [u8]) -> Sealing
 fn not_sealed(fault: Fault) -> Sealing
     ensures { λ r. ⌜ r ≡ Sealing.Refused (at fault 0) ⌝ }
 {
-    Sealing::Refused(Refusal { fault, place: 0 })
+    Sealing::Refused(refuse(fault, 0))
 }

@@ -11,6 +11,7 @@ use Rattle.whole.proofs.Order.{ltZ-true}
 use Rattle.whole.specs.Sum.{sum}
 use Rattle.whole.specs.Tests.{some, eqZ}
 use Rattle.fault.specs.declared.Fault.the-variants.{Twin, Turn, Strip, Below}
+use Rattle.fault.specs.declared.Status.{Status}
 use Rattle.trace.specs.declared.Judgement.the-variants.{Fit, Unfit}
 use Rattle.trace.specs.Points.{count, px, py, segment, twiceArea}
 use Rattle.trace.specs.Judged.{judged, verdictOf, outAt, twinAt, inRange}
@@ -33,7 +34,7 @@ use Rattle.joining.specs.Answers.{Enough, HandedIn, NextAnswer}
 use Rattle.joining.proofs.NextCases.{below, noneLeft}
 use Rattle.strip.proofs.BytesLaws.{numbers-exactly}
 use Rattle.cases.proofs.Lists.{clear, turned-next, none-next}
-use Rattle.cases.specs.Table.{Row, offering, best, first, AllHold, none, and, T, later, repeated, turned, flat, eight, others, eightStrips, fourStrips, lists, rows}
+use Rattle.cases.specs.Table.{Row, valued, best, first, Answered, AllHold, none, and, T, later, repeated, turned, flat, eight, others, eightStrips, fourStrips, lists, rows}
 
 -- ---- the traces
 
@@ -80,6 +81,10 @@ traces b s e = subst (FirstBest (Ways.Strip (count T) (count b)) (W T b)) e (fir
 
 -- ---- the table
 
+-- an answer that is allowed, by its status
+says : {X : Type 0} {P : X → Type 0} {f : X → Status} {n : Status} (r : X) → P r → f r ≡ n → Answered P f n
+says r h e = record { answer = r; allowed = h; says = e }
+
 -- T's and the later trace's numbers of points
 three : (count T ≡ 3) × (count later ≡ 3)
 unfolding count
@@ -96,7 +101,7 @@ greatest-8 = refl
 
 -- the two rows of one of the eight
 both : (s : List Step) {l : List Row} → stepsA s ≡ 3 → stepsB s ≡ 3 → W T T s ≡ pos 8 → AllHold l
-    → AllHold (offering T T s (Value (pos 8)) ∷ best T T s ∷ l)
+    → AllHold (valued T T s (pos 8) ∷ best T T s ∷ l)
 both s a b e rest =
     let i = of-three s a b .0 in
     and (offered T s (pairs T t-fit) i e) (and (attains T s i (e ∙ sym greatest-8)) rest)
@@ -130,15 +135,15 @@ unfolding stepsA stepsB valueFrom worthA worthB count px py top maxℤ pointer t
 others-hold =
     and t-first
     (and (offered T (A ∷ A ∷ A ∷ B ∷ B ∷ B ∷ []) (pairs T t-fit) (of-three (A ∷ A ∷ A ∷ B ∷ B ∷ B ∷ []) refl refl .0) refl)
-    (and (other (pairs T t-fit) (too-many _ refl))
+    (and (says (Refused (at Strip 0)) (other (pairs T t-fit) (too-many _ refl)) refl)
     (and later-first
     (and (offered later (A ∷ B ∷ A ∷ B ∷ A ∷ B ∷ []) (pairs later later-fit) (of-three (A ∷ B ∷ A ∷ B ∷ A ∷ B ∷ []) refl refl .1) refl)
-    (and (given-of repeated-twin)
-    (and (pair (lower (given-of repeated-twin)))
-    (and (given-of turned-turn)
-    (and (pair (lower (given-of turned-turn)))
-    (and (given-of flat-turn)
-    (and (pair (lower (given-of flat-turn))) none))))))))))
+    (and (says (Unfit Twin) (given-of repeated-twin) refl)
+    (and (says (Refused (at Twin 0)) (pair (lower (given-of repeated-twin))) refl)
+    (and (says (Unfit Turn) (given-of turned-turn) refl)
+    (and (says (Refused (at Turn 0)) (pair (lower (given-of turned-turn))) refl)
+    (and (says (Unfit Turn) (given-of flat-turn) refl)
+    (and (says (Refused (at Turn 0)) (pair (lower (given-of flat-turn))) refl) none))))))))))
 
 -- ---- the whole lists
 
@@ -205,7 +210,11 @@ later-list : Listed (Ways.Strip (count T) (count later)) (W T later) fourStrips
 later-list = record { start = A ∷ B ∷ A ∷ B ∷ A ∷ B ∷ []; first = later-first; onward = later-onward }
 
 lists-hold : AllHold lists
-lists-hold = and t-list (and later-list (and below-8 (and none-left none)))
+lists-hold =
+    and t-list
+    (and later-list
+    (and (says (Followed.Refused (at Below 0)) below-8 refl)
+    (and (says Followed.NoneLeft none-left refl) none)))
 
 all-hold : {k l : List Row} → AllHold k → AllHold l → AllHold (k ++ l)
 all-hold none y = y

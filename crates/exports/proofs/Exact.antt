@@ -14,7 +14,8 @@ use Rattle.joining.specs.declared.Followed.{Followed}
 use Rattle.joining.specs.declared.Run.{Run}
 use Rattle.joining.specs.Answers.{BestAnswer, NextAnswer}
 use Rattle.joining.specs.Listing.{ListAnswer}
-use Rattle.joining.proofs.Exact.{Same, best-unique, followed-unique, list-unique}
+use Rattle.joining.specs.Outcomes.{Same}
+use Rattle.joining.proofs.Exact.{best-unique, followed-unique, list-unique}
 use Rattle.stack.specs.declared.Layer.{Layer}
 use Rattle.stack.specs.Faults.{StackJudged}
 use Rattle.stack.proofs.Exact.{stack-judged-unique}

@@ -21,18 +21,13 @@ use Rattle.strip.specs.declared.Valued.{Valued}
 use Rattle.strip.specs.declared.Valued.the-variants as Valued
 use Rattle.joining.specs.declared.Followed.{Followed}
 use Rattle.joining.specs.declared.Followed.the-variants as Followed
-use Rattle.joining.specs.Answers.{Between, NextOf, NoneLeftOf, HandedIn, stripBytes, Given, Cleared, Untouched, bestGates, nextGates, BestAnswer, best, NextAnswer, next, noneLeft}
+use Rattle.joining.specs.Answers.{NextOf, NoneLeftOf, HandedIn, stripBytes, Given, Cleared, Untouched, bestGates, nextGates, BestAnswer, best, NextAnswer, next, noneLeft}
 use Rattle.joining.specs.Answers as Answers
 use Rattle.joining.specs.declared.Run.{Run}
 use Rattle.joining.specs.declared.Run.the-variants as Run
 use Rattle.joining.specs.Listing.{Beginning, all, some, lined, listGates, ListAnswer, listed}
 use Rattle.joining.specs.Listing as Listing
-
--- the same answer and the same bytes
-pub record Same {X : Type 0} (r r′ : X) (strip strip′ work work′ : List ℕ) : Type 0 where
-  pub answer : r ≡ r′
-  pub strips : strip ≡ strip′
-  pub works : work ≡ work′
+use Rattle.joining.specs.Outcomes.{Same, SameBeginning}
 
 untouched : {X : Type 0} {r r′ : X} {strip work s s′ w w′ : List ℕ} → r ≡ r′ → Untouched strip work s w → Untouched strip work s′ w′ → Same r r′ s s′ w w′
 untouched e u v = record { answer = e; strips = u .stripSame ∙ sym (v .stripSame); works = u .workSame ∙ sym (v .workSame) }
@@ -77,11 +72,6 @@ module _ {a b : List ℤ} {strip work : List ℕ} where
   followed-unique (noneLeft p₁ s₁ f₁ k₁ c₁) (noneLeft p₂ s₂ f₂ k₂ c₂) = record { answer = refl; strips = k₁ ∙ sym k₂; works = cleared c₁ c₂ }
 
 -- ---- a run of strips
-
--- two beginnings that a limit allows are one, and say alike whether some remain
-pub record SameBeginning (k l : List (List Step)) (more more′ : Bool) : Type 0 where
-  pub strips : k ≡ l
-  pub remain : more ≡ more′
 
 too-long : (k l : List (List Step)) (s : List Step) (rest : List (List Step)) (limit : ℕ) → k ≡ l ++ s ∷ rest → length k ≤ limit
     → length l ≡ limit → ⊥

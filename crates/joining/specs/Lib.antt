@@ -7,3 +7,5 @@ pub mod Answers
 pub mod Listing
 pub mod Lines
 pub mod Calls
+pub mod Status
+pub mod Outcomes

@@ -29,6 +29,7 @@ use crate::walking::trace_back;
 use crate::walking::turn_here;
 use fault::Fault;
 use fault::Refusal;
+use fault::refuse;
 use strip::Valued;
 use strip::judge_strip;
 use trace::Judgement;
@@ -94,10 +95,7 @@ pub fn best(a: &[i32], b: &[i32], strip: &mut [u8], work: &mut [u8]) -> Valued
 fn no_room() -> Valued
     ensures { λ r. ⌜ r ≡ Valued.Refused (at Fault.Room 0) ⌝ }
 {
-    Valued::Refused(Refusal {
-        fault: Fault::Room,
-        place: 0,
-    })
+    Valued::Refused(refuse(Fault::Room, 0))
 }
 
 // No marks yet: a cell for each pair of two traces of 250 points.
@@ -152,7 +150,7 @@ fn follow(a: &[i32], b: &[i32], m: usize, n: usize, strip: &mut [u8], work: &mut
 fn refusal(fault: Fault) -> Followed
     ensures { λ r. ⌜ r ≡ Followed.Refused (at fault 0) ⌝ }
 {
-    Followed::Refused(Refusal { fault, place: 0 })
+    Followed::Refused(refuse(fault, 0))
 }
 
 // Turns the best strip at the front of `strip` into the next one, if there is one.
@@ -202,8 +200,5 @@ pub fn list_best(a: &[i32], b: &[i32], lines: &mut [u8], work: &mut [u8], limit:
 fn no_lines() -> Run
     ensures { λ r. ⌜ r ≡ Run.Refused (at Fault.Room 0) ⌝ }
 {
-    Run::Refused(Refusal {
-        fault: Fault::Room,
-        place: 0,
-    })
+    Run::Refused(refuse(Fault::Room, 0))
 }

@@ -11,3 +11,4 @@ pub mod Filling
 pub mod Pairs
 pub mod Listing
 pub mod Telling
+pub mod Status

@@ -20,6 +20,7 @@ use crate::pair::judge_read;
 use crate::pair::tell;
 use fault::Fault;
 use fault::Refusal;
+use fault::refuse;
 use trace::Judgement;
 
 // The number of bytes written, or ROOM.
@@ -36,10 +37,7 @@ pub fn listing(text: &[u8], out: &mut [u8]) -> Listed
     ensures { λ r. ⌜ ListingAnswer (now (text .entry)) (now (out .entry)) (now (out .exit)) r ⌝ }
 {
     if out.len() < LONGEST {
-        return Listed::Refused(Refusal {
-            fault: Fault::Room,
-            place: 0,
-        });
+        return Listed::Refused(refuse(Fault::Room, 0));
     }
     Listed::Bytes(answer(text, out))
 }
@@ -60,13 +58,7 @@ fn answer(text: &[u8], out: &mut [u8]) -> usize
     let mut b = no_coords();
     let parsed = read(text, &mut a, &mut b);
     let Parsed::Pair { lower, m, upper, n } = parsed else {
-        return tell(
-            out,
-            Refusal {
-                fault: Fault::Text,
-                place: 0,
-            },
-        );
+        return tell(out, refuse(Fault::Text, 0));
     };
     answer_pair(out, lower, &a, m, upper, &b, n)
 }
@@ -95,13 +87,7 @@ fn answer_pair(
         return tell(out, trace::refused(judged, 1));
     };
     match judge_planes(lower, upper) {
-        Planes::Wrong(place) => tell(
-            out,
-            Refusal {
-                fault: Fault::Planes,
-                place,
-            },
-        ),
+        Planes::Wrong(place) => tell(out, refuse(Fault::Planes, place)),
         Planes::Rise => list_pair(out, &a[..2 * m], &b[..2 * n], upper - lower, areas + area),
     }
 }

@@ -11,9 +11,9 @@ use Rattle.fault.specs.declared.Fault.the-variants.{Check}
 use Rattle.fault.specs.Gates.{at}
 use Rattle.blocks.specs.Faults.{Sound, BlocksJudged}
 use Rattle.blocks.specs.declared.BlocksJudgement.the-variants as blocks-are
-use Rattle.blocks.proofs.BlockLaws.{exchangedBlocks}
+use Rattle.blocks.specs.Exchanged.{exchanged, exchangedBlocks}
 use Rattle.blocks.proofs.Cases.{blocks-single, blocks-open, blocks-stopped}
-use Rattle.blocks.proofs.Changes.{exchanged, one-byte-refused, two-bytes-refused, two-blocks-refused}
+use Rattle.blocks.proofs.Changes.{one-byte-refused, two-bytes-refused, two-blocks-refused}
 use Rattle.register.specs.declared.FileRead.{FileRead}
 use Rattle.register.specs.Reading.{Lent, lost, ReadAnswer}
 use Rattle.register.specs.Reading as read

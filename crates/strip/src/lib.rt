@@ -9,6 +9,7 @@ ghost use Rattle.strip.specs.Judging.{StripJudged};
 ghost use Rattle.strip.specs.Walk.{Reached, PointIs, Fair, Beside, wayWorth, Ready, Stepped, Along, answered};
 use fault::Fault;
 use fault::Refusal;
+use fault::refuse;
 use trace::Judgement;
 use whole::cross;
 
@@ -180,8 +181,5 @@ fn answer(all: Walked) -> Valued
     if all.ok {
         return Valued::Value(value);
     }
-    Valued::Refused(Refusal {
-        fault: Fault::Strip,
-        place: 0,
-    })
+    Valued::Refused(refuse(Fault::Strip, 0))
 }

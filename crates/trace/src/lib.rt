@@ -10,6 +10,7 @@ ghost use Rattle.trace.specs.Refused.{refusalOf};
 ghost use Rattle.trace.specs.Walk.{inside, samePoint, Ready, WalkedOn};
 use fault::Fault;
 use fault::Refusal;
+use fault::refuse;
 use whole::cross;
 
 pub enum Judgement {
@@ -41,11 +42,8 @@ pub fn refused(judgement: Judgement, place: usize) -> Refusal
     ensures { λ r. ⌜ r ≡ refusalOf judgement place ⌝ }
 {
     match judgement {
-        Judgement::Unfit(fault) => Refusal { fault, place },
-        Judgement::Fit { area: _, count: _ } => Refusal {
-            fault: Fault::Shape,
-            place,
-        },
+        Judgement::Unfit(fault) => refuse(fault, place),
+        Judgement::Fit { area: _, count: _ } => refuse(Fault::Shape, place),
     }
 }
 

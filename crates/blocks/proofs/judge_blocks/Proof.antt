@@ -31,11 +31,15 @@ returns-3 c = subst (BlocksJudged _) (sym (c .no-blocks3 .ensures)) (block (λ n
 first-wrong-requires : tie.Need-first-wrong-requires
 first-wrong-requires c κs = search needs
 
+refuse-requires : tie.Need-refuse-requires
+refuse-requires c κs = search needs
+
 returns-4 : tie.Need-returns-4
 returns-4 c =
-    let f = c .before .before .before .before .before .before .args .file .now in
-    check {n = length f / 512} (record { whole = omega arith; some = omega arith; few = omega arith })
-    (sought-lowest (c .before .first-wrong .ensures) (omega arith))
+    let f = c .before .before .before .before .before .before .before .args .file .now in
+    rw (c .refuse .ensures)
+    (check {n = length f / 512} (record { whole = omega arith; some = omega arith; few = omega arith })
+    (sought-lowest (c .before .before .first-wrong .ensures) (omega arith)))
 
 returns-5 : tie.Need-returns-5
 returns-5 c =
@@ -56,5 +60,6 @@ judge-blocks-spec =
     no-blocks-requires-3
     returns-3
     first-wrong-requires
+    refuse-requires
     returns-4
     returns-5)

@@ -2,8 +2,6 @@
 use mathlib.Core.Path.{refl}
 use mir.Syntax.{w32}
 use Rattle.whole.proofs.Machine.{read-back}
-use Rattle.fault.specs.declared.Fault.the-variants.{Text}
-use Rattle.fault.specs.Gates.{at}
 use Rattle.listing.specs.Asked.{reads}
 use Rattle.listing.specs.Listing.{refusal}
 use Rattle.listing.proofs.Cases.{unread, read}
@@ -33,6 +31,9 @@ enum-known-parsed c = search needs
 enum-told : tie.Need-enum-told
 enum-told c = search needs
 
+refuse-requires : tie.Need-refuse-requires
+refuse-requires c κs = search needs
+
 tell-requires : tie.Need-tell-requires
 tell-requires c κs = search needs
 
@@ -41,11 +42,15 @@ same-length c = search needs
 
 returns : tie.Need-returns
 unfolding refusal
-returns c = record {
-  bytes = refusal (at Text 0);
-  such = unread (asked-text (reads (c .before .before .before .before .before .before .before .before .before .before .before .before .before .before .before .args .text .now)) (c .before .before .before .before .before .before .before .before .read .ensures) (c .before .before .before .before .enum-told .given .1));
-  wrote = c .before .before .tell .ensures;
-}
+returns c =
+    let told = c .before .before .before .before .before in
+    let text = told .before .before .before .before .before .before .before .before .before .before .before .args .text .now in
+    record {
+      bytes = refusal (c .before .before .before .refuse .result);
+      such = rw (c .before .before .before .refuse .ensures)
+          (unread (asked-text (reads text) (told .before .before .before .before .read .ensures) (told .enum-told .given .1)));
+      wrote = c .before .before .tell .ensures;
+    }
 
 -- the pair that was read
 asked : (c : tie.After-parsed)
@@ -90,6 +95,7 @@ answer-spec =
     read-requires
     enum-known-parsed
     enum-told
+    refuse-requires
     tell-requires
     same-length
     returns

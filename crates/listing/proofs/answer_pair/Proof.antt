@@ -7,8 +7,6 @@ use lib.Seq.{length-take-le}
 use mir.Syntax.{w32, w64}
 use Rattle.whole.specs.Between.{Within}
 use Rattle.whole.proofs.Machine.{held, fits-holds}
-use Rattle.fault.specs.declared.Fault.the-variants.{Planes}
-use Rattle.fault.specs.Gates.{at}
 use Rattle.strip.proofs.PairLaws.{refuses-lower, refuses-upper}
 use Rattle.listing.specs.Listing.{refusal, BestLines, best}
 use Rattle.listing.proofs.Cases.{traces, planes}
@@ -91,6 +89,9 @@ judged-planes c = planes-back (c .before .before .before .before .before .before
 enum-known-place : tie.Need-enum-known-place
 enum-known-place c = search needs
 
+refuse-requires : tie.Need-refuse-requires
+refuse-requires c κs = search needs
+
 tell-requires-3 : tie.Need-tell-requires-3
 tell-requires-3 c κs = search needs
 
@@ -139,11 +140,16 @@ same-length-3 c = search needs
 
 returns-3 : tie.Need-returns-3
 unfolding refusal
-returns-3 c = λ ka kb. record {
-  bytes = refusal (at Planes (c .before .before .before .before .before .place .given .0 .0));
-  such = planes (both (lower (c .before .before .before .before .before .before .before .before .before .before .before .before .before) ka) (upper (c .before .before .before .before .before .before .before .before .before) kb)) (planes-wrong (judged-planes (c .before .before .before .before .before .before .before)) (c .before .before .before .before .before .place .given .1));
-  wrote = c .before .before .tell3 .ensures;
-}
+returns-3 c = λ ka kb.
+    let told = c .before .before .before .before .before .before in
+    let judged = told .before .before in
+    record {
+      bytes = refusal (c .before .before .before .refuse .result);
+      such = rw (c .before .before .before .refuse .ensures)
+          (planes (both (lower (judged .before .before .before .before .before .before) ka) (upper (judged .before .before) kb))
+          (planes-wrong (judged-planes judged) (told .place .given .1)));
+      wrote = c .before .before .tell3 .ensures;
+    }
 
 same-length-4 : tie.Need-same-length-4
 same-length-4 c = search needs
@@ -183,6 +189,7 @@ answer-pair-spec =
     returns-2
     judge-planes-requires
     enum-known-place
+    refuse-requires
     tell-requires-3
     enum-told-3
     mul-list-pair
