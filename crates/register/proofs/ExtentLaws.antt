@@ -68,7 +68,7 @@ pub record Extended (k : List ℕ) (st : Stack) (low top : Layer) : Type 0 where
 
 module _ {k : List ℕ} {st : Stack} (g : Layered k st) where
   pub layered-many : st .count ≡ layersIn k
-  layered-many = ap (λ (s : Stack). s .count) (g .stack) ∙ counted (layersOf k) ∙ layers-of-long k
+  layered-many = ap (λ (s : Stack). s .count) (g .stack) ∙ counted (length (layersOf k)) (layersOf k) ∙ layers-of-long k
 
   few : length (layersOf k) ≤ 20
   few = omega (arith, layers-of-long k, g .layers .twenty)

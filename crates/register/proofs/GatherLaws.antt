@@ -8,7 +8,7 @@ use lib.ListN.{length, drop, length-append}
 use lib.Seq.{drop-drop}
 use Rattle.stack.specs.declared.Layer.{Layer}
 use Rattle.stack.specs.declared.Stack.{Stack}
-use Rattle.stack.specs.Laid.{stackOf, oneMore}
+use Rattle.stack.specs.Laid.{counting, stackOf, withLayer}
 use Rattle.stack.proofs.Laying.{one-more}
 use Rattle.register.specs.Decoding.{countHere, layerHere, past, layersFrom, placeOf}
 
@@ -20,10 +20,10 @@ pub record GatherSo (contents : List ℕ) (n k first : ℕ) (st : Stack) : Type 
   pub few : first ≤ 65535 * k
   pub done : List Layer
   pub many : length done ≡ k
-  pub stack : st ≡ stackOf done
+  pub stack : st ≡ counting n done
   pub rest : layersFrom n 0 (drop 2 contents) ≡ done ++ layersFrom (n - k) first (drop (placeOf k first) contents)
 
-pub gather-begun : (contents : List ℕ) (n : ℕ) {st : Stack} → st ≡ stackOf [] → GatherSo contents n 0 0 st
+pub gather-begun : (contents : List ℕ) (n : ℕ) {st : Stack} → st ≡ counting n [] → GatherSo contents n 0 0 st
 gather-begun contents n e =
     let all : n - 0 ≡ n = omega arith in record {
       inside = omega arith;
@@ -56,7 +56,7 @@ place-next contents k f =
 
 module _ {contents : List ℕ} {n k first : ℕ} {st : Stack} (s : GatherSo contents n k first st) where
   pub gather-more : {e : Layer} {st′ : Stack} → k < n → n ≤ 20 → e ≡ layerHere first (drop (placeOf k first) contents) → e .count < 65536
-      → st′ ≡ oneMore st e → GatherSo contents n (k + 1) (first + e .count) st′
+      → st′ ≡ withLayer st k e → GatherSo contents n (k + 1) (first + e .count) st′
   gather-more {e} h few is small put =
       rw (add-one k) (
       let r : List ℕ = drop (placeOf k first) contents in
@@ -67,7 +67,7 @@ module _ {contents : List ℕ} {n k first : ℕ} {st : Stack} (s : GatherSo cont
         few = omega (arith, s .few);
         done = s .done ++ (e ∷ []);
         many = length-append (s .done) (e ∷ []) ∙ ap (λ (i : ℕ). i + 1) (s .many) ∙ add-one k;
-        stack = put ∙ ap (λ (t : Stack). oneMore t e) (s .stack) ∙ one-more (s .done) e (omega (arith, s .many));
+        stack = put ∙ ap (λ (t : Stack). withLayer t k e) (s .stack) ∙ one-more (s .done) e n k (s .many) (omega arith);
         rest =
             s .rest ∙ ap (λ (l : List Layer). s .done ++ l) (layers-next (n - k) first r (omega arith))
             ∙ ap₂ (λ (d : Layer) (l : List Layer). s .done ++ (d ∷ l)) (sym is)
@@ -80,5 +80,7 @@ module _ {contents : List ℕ} {n k first : ℕ} {st : Stack} (s : GatherSo cont
   unfolding layersFrom
   gather-done h =
       let none : n - k ≡ 0 = omega arith in
-      s .stack
-      ∙ ap stackOf (sym (s .rest ∙ ap (λ (i : ℕ). s .done ++ layersFrom i first (drop (placeOf k first) contents)) none ∙ append-nil (s .done)))
+      let all : layersFrom n 0 (drop 2 contents) ≡ s .done =
+      s .rest ∙ ap (λ (i : ℕ). s .done ++ layersFrom i first (drop (placeOf k first) contents)) none ∙ append-nil (s .done) in
+      let many : n ≡ length (s .done) = omega (arith, s .many, s .inside) in
+      s .stack ∙ ap₂ counting (many ∙ ap length (sym all)) (sym all)

@@ -35,7 +35,7 @@ fn wrong(fault: Fault) -> Decoded
     ensures { λ r. ⌜ r ≡ record { stack = stackOf []; points = 0; steps = 0; content = Content.Wrong (at fault 0) } ⌝ }
 {
     Decoded {
-        stack: stack::no_layers(),
+        stack: stack::no_layers(0),
         points: 0,
         steps: 0,
         content: Content::Wrong(refuse(fault, 0)),

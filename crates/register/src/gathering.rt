@@ -12,12 +12,12 @@ pub(crate) fn stack_of(contents: &[u8], layers: usize) -> Stack
     requires { ⌜ layers ≤ 20 ⌝ }
     ensures { λ r. ⌜ r ≡ stackOf (layersFrom layers 0 (drop 2 (now (contents .entry)))) ⌝ }
 {
-    let mut stack = stack::no_layers();
+    let mut stack = stack::no_layers(layers);
     let mut first = 0;
     let mut k = 0;
     while k < layers {
         let layer = layer_here(contents, k, first);
-        stack = stack::with_layer(stack, layer);
+        stack = stack::with_layer(stack, k, layer);
         first += layer.count;
         k += 1;
     }

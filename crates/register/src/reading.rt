@@ -23,7 +23,7 @@ pub(crate) fn lost(refusal: Refusal) -> FileRead
     ensures { λ r. ⌜ r ≡ Reading.lost refusal ⌝ }
 {
     FileRead {
-        stack: stack::no_layers(),
+        stack: stack::no_layers(0),
         answer: ReadBack::Refused(refusal),
     }
 }

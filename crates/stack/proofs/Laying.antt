@@ -1,6 +1,6 @@
--- The entries that a Stack holds, one by one, and the Stack that holds a list: of up to 20 entries the two undo each other, and one more
--- entry in the Stack is one more behind the list. Assumes nothing.
-use mathlib.Core.Path.{_≡_, refl, sym, ap, ap₂, _∙_}
+-- The entries that a Stack holds, one by one, and the Stack that holds a list: of up to 20 entries the two undo each other, and an entry
+-- that is put in behind the others is one more of them. Assumes nothing.
+use mathlib.Core.Path.{_≡_, refl, sym, ap, _∙_}
 use mathlib.Core.Bool.{Bool, true, false, cond}
 use mathlib.Core.List.{List, [], _∷_, _++_}
 use Prim.Native.Nat.{ℕ, suc, _+_, _≤_, _<_}
@@ -16,7 +16,7 @@ use Rattle.stack.specs.declared.Layer.{Layer}
 use Rattle.stack.specs.declared.Stack.{Stack}
 use Rattle.stack.specs.Entries.{noLayer, entry, steps, bandStart}
 use Rattle.stack.specs.Faults.{LayersRight}
-use Rattle.stack.specs.Laid.{laid, stackOf, oneMore}
+use Rattle.stack.specs.Laid.{laid, counting, stackOf, withLayer}
 use Rattle.stack.proofs.StackLaws.{band-fits}
 
 -- ---- the entries of a Stack
@@ -57,12 +57,12 @@ laid-fits st k h = band-fits (laid st) k (omega (arith, laid-long st))
 
 -- ---- the Stack of a list
 
-pub counted : (es : List Layer) → stackOf es .count ≡ length es
-unfolding stackOf
-counted es = refl
+pub counted : (n : ℕ) (es : List Layer) → counting n es .count ≡ n
+unfolding counting
+counted n es = refl
 
 pub laid-of : (es : List Layer) → length es ≤ 20 → laid (stackOf es) ≡ es
-unfolding stackOf
+unfolding counting
 laid-of es h =
     let st = stackOf es in
     ext-getD noLayer (laid st) es (laid-long st) (λ k b.
@@ -71,24 +71,30 @@ laid-of es h =
     laid-at st k less low ∙ getD-firstly 20 (entry es) k noLayer low)
 
 -- the array of no entries
-pub none-held : record { layers = replicate 20 noLayer; count = 0 } ≡ stackOf []
-unfolding stackOf
-none-held = ap (λ (l : List Layer). record { layers = l; count = 0 }) (is-firstly (replicate 20 noLayer) 20 (λ k. noLayer) noLayer refl
+pub none-held : (n : ℕ) → record { layers = replicate 20 noLayer; count = n } ≡ counting n []
+unfolding counting
+none-held n = ap (λ (l : List Layer). record { layers = l; count = n }) (is-firstly (replicate 20 noLayer) 20 (λ k. noLayer) noLayer refl
     (λ k h. getD-replicate 20 k noLayer noLayer h))
 
--- ---- one layer more
+-- of over 20 entries the first 20 are there
+pub counting-front : (n : ℕ) (es : List Layer) → counting n (take 20 es) ≡ counting n es
+unfolding counting
+counting-front n es =
+    ap (λ (l : List Layer). record { layers = l; count = n })
+    (is-firstly (firstly 20 (entry (take 20 es))) 20 (entry es) noLayer (length-firstly 20 (entry (take 20 es)))
+    (λ k h. getD-firstly 20 (entry (take 20 es)) k noLayer h ∙ getD-take 20 es k noLayer h))
 
-pub put-more : (st : Stack) (e : Layer) {n : ℕ} → st .count < 20 → n ≡ suc (st .count)
-    → record { layers = set (st .layers) (st .count) e; count = n } ≡ oneMore st e
-unfolding oneMore
-put-more st e h q =
-    ap (λ (n : ℕ). record { layers = set (st .layers) (st .count) e; count = n }) q
-    ∙ sym (ap (λ (t : Bool). cond t (record { layers = set (st .layers) (st .count) e; count = suc (st .count) }) st) (lt-ltb (st .count) 20 h))
+-- ---- layer k put in
 
-pub full-stays : (st : Stack) (e : Layer) → 20 ≤ st .count → st ≡ oneMore st e
-unfolding oneMore
-full-stays st e h =
-    sym (ap (λ (t : Bool). cond t (record { layers = set (st .layers) (st .count) e; count = suc (st .count) }) st) (le-ltb (st .count) 20 h))
+pub put-in : (st : Stack) (k : ℕ) (e : Layer) → k < 20 → record { layers = set (st .layers) k e; count = st .count } ≡ withLayer st k e
+unfolding withLayer
+put-in st k e h =
+    sym (ap (λ (t : Bool). cond t (record { layers = set (st .layers) k e; count = st .count }) st) (lt-ltb k 20 h))
+
+pub full-stays : (st : Stack) (k : ℕ) (e : Layer) → 20 ≤ k → st ≡ withLayer st k e
+unfolding withLayer
+full-stays st k e h =
+    sym (ap (λ (t : Bool). cond t (record { layers = set (st .layers) k e; count = st .count }) st) (le-ltb k 20 h))
 
 module _ (es : List Layer) (e : Layer) where
   -- what stands at k, behind the list and elsewhere
@@ -103,25 +109,23 @@ module _ (es : List Layer) (e : Layer) where
           List·getD-eq-default (es ++ (e ∷ [])) noLayer (simp length-append (omega arith))
           ∙ sym (List·getD-eq-default es noLayer h)
 
-  pub one-more : length es < 20 → oneMore (stackOf es) e ≡ stackOf (es ++ (e ∷ []))
-  unfolding oneMore stackOf
-  one-more h =
-      ap (λ (t : Bool). cond t (record { layers = set (firstly 20 (entry es)) n e; count = suc n }) (stackOf es)) (lt-ltb n 20 h)
-      ∙ ap₂ (λ (l : List Layer) (m : ℕ). record { layers = l; count = m }) put (sym (simp length-append (omega arith)))
+  -- put behind the others it is one entry more
+  pub one-more : (n k : ℕ) → length es ≡ k → k < 20 → withLayer (counting n es) k e ≡ counting n (es ++ (e ∷ []))
+  unfolding counting
+  one-more n k long h =
+      sym (put-in (counting n es) k e h) ∙ ap (λ (l : List Layer). record { layers = l; count = n }) put
     where
-      n : ℕ
-      n = length es
+      at : (i : ℕ) (t : Bool) → eqb i k ≡ t → i < 20 → entry (set (firstly 20 (entry es)) k e) i ≡ entry (es ++ (e ∷ [])) i
+      at i true q b =
+          let same : i ≡ k = eqb-true i k q in
+          ap (entry (set (firstly 20 (entry es)) k e)) same
+          ∙ getD-set-same (firstly 20 (entry es)) k e noLayer (omega (arith, length-firstly 20 (entry es)))
+          ∙ sym (ap (entry (es ++ (e ∷ []))) (same ∙ sym long) ∙ getD-append-seam es e [] noLayer)
+      at i false q b =
+          let other : i ≡ k → ⊥ = eqb-false i k q in
+          getD-set-other (firstly 20 (entry es)) k i e noLayer other ∙ getD-firstly 20 (entry es) i noLayer b
+          ∙ sym (behind i (λ p. other (p ∙ long)))
 
-      at : (k : ℕ) (t : Bool) → eqb k n ≡ t → k < 20 → entry (set (firstly 20 (entry es)) n e) k ≡ entry (es ++ (e ∷ [])) k
-      at k true q b =
-          let same : k ≡ n = eqb-true k n q in
-          ap (entry (set (firstly 20 (entry es)) n e)) same
-          ∙ getD-set-same (firstly 20 (entry es)) n e noLayer (omega (arith, length-firstly 20 (entry es)))
-          ∙ sym (ap (entry (es ++ (e ∷ []))) same ∙ getD-append-seam es e [] noLayer)
-      at k false q b =
-          let other : k ≡ n → ⊥ = eqb-false k n q in
-          getD-set-other (firstly 20 (entry es)) n k e noLayer other ∙ getD-firstly 20 (entry es) k noLayer b ∙ sym (behind k other)
-
-      put : set (firstly 20 (entry es)) n e ≡ firstly 20 (entry (es ++ (e ∷ [])))
-      put = is-firstly (set (firstly 20 (entry es)) n e) 20 (entry (es ++ (e ∷ []))) noLayer
-          (length-set (firstly 20 (entry es)) n e ∙ length-firstly 20 (entry es)) (λ k b. at k (eqb k n) refl b)
+      put : set (firstly 20 (entry es)) k e ≡ firstly 20 (entry (es ++ (e ∷ [])))
+      put = is-firstly (set (firstly 20 (entry es)) k e) 20 (entry (es ++ (e ∷ []))) noLayer
+          (length-set (firstly 20 (entry es)) k e ∙ length-firstly 20 (entry es)) (λ i b. at i (eqb i k) refl b)

@@ -10,7 +10,7 @@ ghost use Rattle.strip.specs.Bytes.{IsStrip};
 ghost use Rattle.stack.specs.Entries.{noLayer, entry, traceOf, stop, start, steps, bandStart};
 ghost use Rattle.stack.specs.Faults.{Breaks, PlaneFault, LayersRight, Spanned, StackJudged};
 ghost use Rattle.stack.specs.Strips.{BandStrip, BandFault, StripsJudged};
-ghost use Rattle.stack.specs.Laid.{laid, stackOf, oneMore};
+ghost use Rattle.stack.specs.Laid.{laid, counting, withLayer};
 use fault::Fault;
 use fault::Refusal;
 use fault::refuse;
@@ -60,24 +60,22 @@ pub fn judge_stack(stack: Stack, coords: &[i32]) -> StackJudgement
     judge_traces(stack, coords)
 }
 
-// A stack without a layer.
-pub fn no_layers() -> Stack
-    ensures { λ r. ⌜ r ≡ stackOf [] ⌝ }
+// A stack of so many layers, all of them empty yet.
+pub fn no_layers(count: usize) -> Stack
+    ensures { λ r. ⌜ r ≡ counting count [] ⌝ }
 {
     Stack {
         layers: [no_layer(); 20],
-        count: 0,
+        count,
     }
 }
 
-// One layer more. A stack has room for 20 of them; a fuller one stays as it is.
-pub fn with_layer(mut stack: Stack, layer: Layer) -> Stack
-    ensures { λ r. ⌜ r ≡ oneMore stack layer ⌝ }
+// Layer `k` put in. There is room for 20; what does not fit changes nothing.
+pub fn with_layer(mut stack: Stack, k: usize, layer: Layer) -> Stack
+    ensures { λ r. ⌜ r ≡ withLayer stack k layer ⌝ }
 {
-    let k = stack.count;
     if k < 20 {
         stack.layers[k] = layer;
-        stack.count = k + 1;
     }
     stack
 }

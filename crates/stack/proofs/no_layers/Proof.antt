@@ -8,7 +8,7 @@ no-layer-requires : tie.Need-no-layer-requires
 no-layer-requires c κs = search needs
 
 returns : tie.Need-returns
-returns c = rw (c .no-layer .ensures) none-held
+returns c = rw (c .no-layer .ensures) (none-held (c .before .args .count))
 
 pub no-layers-spec : {M : Type 1} → statement M
 no-layers-spec = tie.close (tie.spec no-layer-requires returns)
