@@ -1,5 +1,5 @@
 -- The call of `gather` as a step of a walk: from what a `&[Layer]` owns and its lifetime's token, both of which are there again after it,
--- to a Stack that gathers the slice's entries. What the slice owns is had twice, since a `&[Layer]` is Copy: one goes to the callee.
+-- to the Stack that holds the slice's entries. What the slice owns is had twice, since a `&[Layer]` is Copy: one goes to the callee.
 -- Assumes that the call meets `gather`'s contract.
 use mathlib.Core.Path.{_≡_, sym, ap, subst}
 use mathlib.Core.List.{List, [], _∷_}
@@ -29,13 +29,11 @@ use denote.Triple.Spec.{tripleOf}
 use denote.Triple.Clauses.{ensured, lasts}
 use Rattle.stack.specs.declared.Layer.{Layer}
 use Rattle.stack.specs.declared.Stack.{Stack}
-use Rattle.stack.specs.Gathered.{Gathers}
+use Rattle.stack.specs.Laid.{stackOf}
 use Rattle.stack.proofs.Layer as Ly
 use Rattle.stack.proofs.Stack as St
 use Rattle.stack.proofs.Stack.Laws as St′
-use Rattle.entries.specs.Gathering.{gathered}
 use Rattle.entries.proofs.Walking.{stack-val}
-use Rattle.entries.proofs.GatherLaws.{gathered-gathers}
 use Rattle.entries.proofs.gather as gather
 use Rattle.entries.proofs.gather.Symbol.{name as #entries·gather}
 
@@ -57,15 +55,15 @@ module _ {M : Type 1} {𝓤 : URA M} {H : Heap 𝓤} {A : Atoms 𝓤} (W : Given
       join ! $ frame ! $ done !
 
   said : (st : Stack) → ent 𝓤 (ensured 𝓤 H A gather.ended (gather.clauses 𝓤 H A mem run) (κ, tt) (x, tt) tt st)
-      (fact 𝓤 (st ≡ gathered (x .now)))
-  said st = exE 𝓤 _ (λ ws. snd∗ 𝓤 (sem 𝓤 H A (lasts gather.ended (κ, tt) (x, tt) ws)) (fact 𝓤 (st ≡ gathered (x .now))))
+      (fact 𝓤 (st ≡ stackOf (x .now)))
+  said st = exE 𝓤 _ (λ ws. snd∗ 𝓤 (sem 𝓤 H A (lasts gather.ended (κ, tt) (x, tt) ws)) (fact 𝓤 (st ≡ stackOf (x .now))))
 
   pub gathers : {C : Calls 𝓤 H} {Λ : Loops 𝓤 H} {E : Env 𝓤 H} {p : Post 𝓤 H} {d : Place} {xs : List Operand} {rest : Body}
       {Γ : List (Item 𝓤)}
       → FmC 𝓤 H (W .laws) C → Triple 𝓤 (C #entries·gather) (Gather 𝓤 H A mem run)
       → Opds (Go {0}) W (raw (Gather 𝓤 H A mem run .pre (to-gather 𝓤 H A mem run κ q x)) ∷ ‵ (Lent κ x)
       ∷ Γ) E xs (sliceVal (x .ptr) (length (x .now)) ∷ [])
-      → ((st : Stack) → Is St.the-row st (stack-val st ∷ []) → Gathers st (x .now)
+      → ((st : Stack) → Is St.the-row st (stack-val st ∷ []) → st ≡ stackOf (x .now)
       → Sq W (‵ (flft κ q) ∷ ‵ (Lent κ x) ∷ Γ) (lands C Λ E d (stack-val st) rest p))
       → Sq W (‵ (Lent κ x) ∷ ‵ (flft κ q) ∷ Γ) (runs C Λ E (seq (call #entries·gather xs d) rest) p)
   gathers {C} {Λ} {E} {p} {d} {rest = rest} {Γ = Γ} fm known passed k =
@@ -75,11 +73,11 @@ module _ {M : Type 1} {𝓤 : URA M} {H : Heap 𝓤} {A : Atoms 𝓤} (W : Given
       calls-at ! fm (Gather 𝓤 H A mem run) known (to-gather 𝓤 H A mem run κ q x) passed (λ u.
       use1 W (later (some (λ (st : Stack). ((‵ (flft κ q) ⊛ ‵ ftrue) ⊛ ‵ (St.the-row .own st (u ∷ [])))
       ⊛ raw (ensured 𝓤 H A gather.ended (gather.clauses 𝓤 H A mem run) (κ, tt) (x, tt) tt st)))) (id⊢ 𝓤 _) $ await ! tt $ pick ! (λ st.
-      split ! $ move ! (1 ∷ []) $ use1 W (raw (fact 𝓤 (st ≡ gathered (x .now)))) (said st) $ heard ! (st ≡ gathered (x .now)) (λ g.
+      split ! $ move ! (1 ∷ []) $ use1 W (raw (fact 𝓤 (st ≡ stackOf (x .now)))) (said st) $ heard ! (st ≡ stackOf (x .now)) (λ g.
       split ! $ split ! $ move ! (2 ∷ []) $
       -- [the result; the token; true; what the slice owns; the rest]
       peeks ! St.the-row (Is St.the-row) (shows 𝓤 H A St.the-row) st (u ∷ []) (λ is. drop ! $ move ! (1 ∷ []) $ drop ! $
       subst (λ (w : Val). Sq W (‵ (flft κ q) ∷ ‵ (Lent κ x) ∷ Γ) (lands C Λ E d w rest p))
       (sym (ap only (LL.tells St.the-type St′.the-laws st (u ∷ []) is)))
       (k st (subst (Is St.the-row st) (LL.tells St.the-type St′.the-laws st (u ∷ []) is) is)
-      (subst (λ (r : Stack). Gathers r (x .now)) (sym g) (gathered-gathers (x .now))))))))
+      g)))))

@@ -1,7 +1,7 @@
 -- What writing entries one by one keeps: the front is the stack's, the rest is as before. The copied list is the front that is written.
--- What is gathered is scattered again. Assumes nothing.
+-- Assumes nothing.
 use mathlib.Core.Path.{_≡_, sym, ap, _∙_}
-use mathlib.Core.List.{List, _++_}
+use mathlib.Core.List.{List, [], _++_}
 use Prim.Native.Nat.{ℕ, _+_, _≤_, _<_}
 use native.Mathlib.Omega.{arith}
 use lib.ListN.{length, take, drop, set}
@@ -10,11 +10,9 @@ use Rattle.whole.proofs.Filling.{CopySo, copy-begun, copy-more, copy-done}
 use Rattle.stack.specs.declared.Layer.{Layer}
 use Rattle.stack.specs.declared.Stack.{Stack}
 use Rattle.stack.specs.Entries.{noLayer, entry}
-use Rattle.stack.specs.Laid.{laid}
-use Rattle.stack.proofs.Laying.{laid-long, laid-only}
-use Rattle.entries.specs.Gathering.{gathered}
+use Rattle.stack.specs.Laid.{laid, counting, stackOf}
+use Rattle.stack.proofs.Laying.{counted, laid-long, laid-of}
 use Rattle.entries.specs.Scattered.{written, scattered}
-use Rattle.entries.proofs.GatherLaws.{gathered-gathers}
 
 module _ (st : Stack) (old : List Layer) (m : ℕ) (e : m ≡ written st (length old)) where
   front-long : length (take m (laid st)) ≡ m
@@ -39,25 +37,17 @@ module _ (st : Stack) (old : List Layer) (m : ℕ) (e : m ≡ written st (length
 -- ---- what is left there
 
 -- no layers: nothing is written
-pub scattered-none : (st : Stack) (old : List Layer) → st .layers ≡ 0 → scattered st old ≡ old
+pub scattered-none : (old : List Layer) → scattered (stackOf []) old ≡ old
 unfolding scattered
-scattered-none st old e =
-    let n : written st (length old) ≡ 0 = omega (arith, e) in
-    ap (λ (k : ℕ). take k (laid st) ++ drop k old) n
+scattered-none old =
+    let n : written (stackOf []) (length old) ≡ 0 = omega (arith, counted 0 []) in
+    ap (λ (k : ℕ). take k (laid (stackOf [])) ++ drop k old) n
 
 -- up to 20 layers, where there is room: all of them stand at the front
-pub scattered-all : (st : Stack) (old : List Layer) → st .layers ≤ 20 → st .layers ≤ length old
-    → scattered st old ≡ laid st ++ drop (st .layers) old
+pub scattered-all : (es old : List Layer) → length es ≤ 20 → length es ≤ length old → scattered (stackOf es) old ≡ es ++ drop (length es) old
 unfolding scattered
-scattered-all st old few room =
-    let n : written st (length old) ≡ st .layers = omega (arith, few, room) in
-    ap (λ (k : ℕ). take k (laid st) ++ drop k old) n
-    ∙ ap (λ (l : List Layer). l ++ drop (st .layers) old) (take-all (st .layers) (laid st) (omega (arith, laid-long st)))
-
--- so what is gathered stands as it stood
-pub gathered-scattered : (es old : List Layer) → length es ≤ 20 → length es ≤ length old
-    → scattered (gathered es) old ≡ es ++ drop (length es) old
-unfolding gathered
-gathered-scattered es old few room =
-    scattered-all (gathered es) old few room
-    ∙ ap (λ (l : List Layer). l ++ drop (length es) old) (sym (laid-only (gathered es) es few (gathered-gathers es)))
+scattered-all es old few room =
+    let n : written (stackOf es) (length old) ≡ length es = omega (arith, counted (length es) es) in
+    ap (λ (k : ℕ). take k (laid (stackOf es)) ++ drop k old) n
+    ∙ ap (λ (l : List Layer). take (length es) l ++ drop (length es) old) (laid-of es few)
+    ∙ ap (λ (l : List Layer). l ++ drop (length es) old) (take-all (length es) es (omega arith))

@@ -8,7 +8,7 @@ use Rattle.stack.specs.declared.Stack.{Stack}
 use Rattle.stack.specs.Laid.{laid}
 
 abbrev pub written : Stack → ℕ → ℕ
-written st room = min (min (st .layers) 20) room
+written st room = min (min (st .count) 20) room
 
 unfoldable pub scattered : Stack → List Layer → List Layer
 scattered st old = take (written st (length old)) (laid st) ++ drop (written st (length old)) old

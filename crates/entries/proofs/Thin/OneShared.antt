@@ -1,5 +1,5 @@
 -- `f(layers: &[Layer], s: &[T]) -> R { g(gather(layers), s) }` meets its contract, if g meets its own, and if what g says of a stack holds
--- of the entries that it gathers: a walk of f's MIR, by hand, for any T, R and g.
+-- of the entries that it holds: a walk of f's MIR, by hand, for any T, R and g.
 -- A `&[T]` is Copy: what it owns is had twice, one goes to the callee, and one is kept for the exit.
 -- Assumes nothing.
 use mathlib.Core.Path.{_≡_, refl}
@@ -38,7 +38,7 @@ use denote.Triple.Clauses.{Ended, Clauses, closing, ensured, lasts}
 use denote.Exit.{yes}
 use Rattle.stack.specs.declared.Layer.{Layer}
 use Rattle.stack.specs.declared.Stack.{Stack}
-use Rattle.stack.specs.Gathered.{Gathers}
+use Rattle.stack.specs.Laid.{stackOf}
 use Rattle.stack.proofs.Layer as Ly
 use Rattle.stack.proofs.Stack as St
 use Rattle.stack.proofs.Stack.Laws as St′
@@ -56,7 +56,7 @@ pub record Thin : Type 2 where
   pub callee : Name
   pub Said : Stack → List (element .Denot) → result .Denot → Type 0
   pub Holds : List Layer → List (element .Denot) → result .Denot → Type 0
-  pub so : (st : Stack) (es : List Layer) (l : List (element .Denot)) (r : result .Denot) → Gathers st es → Said st l r → Holds es l r
+  pub so : (st : Stack) (es : List Layer) (l : List (element .Denot)) (r : result .Denot) → st ≡ stackOf es → Said st l r → Holds es l r
 
 module _ (t : Thin) where
   abbrev ended : Ended

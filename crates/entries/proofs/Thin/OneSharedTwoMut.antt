@@ -1,5 +1,5 @@
 -- `f(layers: &[Layer], s: &[T], o: &mut [U], w: &mut [V]) -> R { g(gather(layers), s, o, w) }` meets its contract, if g meets its own, and if
--- what g says of a stack holds of the entries that it gathers: a walk of f's MIR, by hand, for any T, U, V, R and g.
+-- what g says of a stack holds of the entries that it holds: a walk of f's MIR, by hand, for any T, U, V, R and g.
 -- What a `&` owns is had twice: one goes to the callee, and one is kept for the exit. Each `&mut` goes to the callee for good, at its own
 -- lifetime, share and name, and the exit has what the callee says of its last list.
 -- Assumes nothing.
@@ -43,7 +43,7 @@ use denote.Triple.Clauses.{Ended, Clauses, closing, ensured, lasts}
 use denote.Exit.{yes}
 use Rattle.stack.specs.declared.Layer.{Layer}
 use Rattle.stack.specs.declared.Stack.{Stack}
-use Rattle.stack.specs.Gathered.{Gathers}
+use Rattle.stack.specs.Laid.{stackOf}
 use Rattle.stack.proofs.Layer as Ly
 use Rattle.stack.proofs.Stack as St
 use Rattle.stack.proofs.Stack.Laws as St′
@@ -66,7 +66,7 @@ pub record Thin : Type 2 where
   pub Holds : List Layer → List (first .Denot) → List (out .Denot) → List (work .Denot) → List (out .Denot) → List (work .Denot)
       → result .Denot → Type 0
   pub so : (st : Stack) (es : List Layer) (l : List (first .Denot)) (old : List (out .Denot)) (before : List (work .Denot))
-      (new : List (out .Denot)) (after : List (work .Denot)) (r : result .Denot) → Gathers st es → Said st l old before new after r
+      (new : List (out .Denot)) (after : List (work .Denot)) (r : result .Denot) → st ≡ stackOf es → Said st l old before new after r
       → Holds es l old before new after r
 
 module _ (t : Thin) where

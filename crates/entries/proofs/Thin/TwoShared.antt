@@ -1,5 +1,5 @@
 -- `f(layers: &[Layer], s: &[T], s′: &[U]) -> R { g(gather(layers), s, s′) }` meets its contract, if g meets its own, and if what g says of
--- a stack holds of the entries that it gathers: a walk of f's MIR, by hand, for any T, U, R and g.
+-- a stack holds of the entries that it holds: a walk of f's MIR, by hand, for any T, U, R and g.
 -- What the `&` own is had twice: one goes to the callee, and one is kept for the exit.
 -- Assumes nothing.
 use mathlib.Core.Path.{_≡_, refl}
@@ -38,7 +38,7 @@ use denote.Triple.Clauses.{Ended, Clauses, closing, ensured, lasts}
 use denote.Exit.{yes}
 use Rattle.stack.specs.declared.Layer.{Layer}
 use Rattle.stack.specs.declared.Stack.{Stack}
-use Rattle.stack.specs.Gathered.{Gathers}
+use Rattle.stack.specs.Laid.{stackOf}
 use Rattle.stack.proofs.Layer as Ly
 use Rattle.stack.proofs.Stack as St
 use Rattle.stack.proofs.Stack.Laws as St′
@@ -57,7 +57,7 @@ pub record Thin : Type 2 where
   pub callee : Name
   pub Said : Stack → List (first .Denot) → List (second .Denot) → result .Denot → Type 0
   pub Holds : List Layer → List (first .Denot) → List (second .Denot) → result .Denot → Type 0
-  pub so : (st : Stack) (es : List Layer) (l : List (first .Denot)) (m : List (second .Denot)) (r : result .Denot) → Gathers st es
+  pub so : (st : Stack) (es : List Layer) (l : List (first .Denot)) (m : List (second .Denot)) (r : result .Denot) → st ≡ stackOf es
       → Said st l m r → Holds es l m r
 
 module _ (t : Thin) where

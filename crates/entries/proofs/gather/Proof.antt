@@ -53,17 +53,18 @@ use Rattle.stack.specs.declared.Stack.{Stack}
 use Rattle.stack.proofs.Layer as Ly
 use Rattle.stack.proofs.Stack as St
 use Rattle.stack.proofs.Stack.Laws as St′
-use Rattle.entries.specs.Gathering.{gathered, Gathering}
+use Rattle.stack.specs.Laid.{counting, stackOf}
+use Rattle.entries.specs.Gathering.{Gathering}
 use Rattle.entries.proofs.Walking.{stack-val, holds, fails, before, left, at-end, not-before, up-fits}
 use Rattle.entries.proofs.GatherLaws.{all-in}
 use Rattle.entries.proofs.put as put
 use Rattle.entries.proofs.put.Symbol as put-def
 use Rattle.entries.proofs.put.Symbol.{name as #entries·put}
 use Rattle.entries.proofs.put.Met as put-thm
-use Rattle.entries.proofs.no_layers as none
-use Rattle.entries.proofs.no_layers.Symbol as none-def
-use Rattle.entries.proofs.no_layers.Symbol.{name as #entries·no-layers}
-use Rattle.entries.proofs.no_layers.Met as none-thm
+use Rattle.stack.proofs.no_layers as none
+use Rattle.stack.proofs.no_layers.Symbol as none-def
+use Rattle.stack.proofs.no_layers.Symbol.{name as #stack·no-layers}
+use Rattle.stack.proofs.no_layers.Met as none-thm
 use Rattle.entries.proofs.up_to_20 as few
 use Rattle.entries.proofs.up_to_20.Symbol as few-def
 use Rattle.entries.proofs.up_to_20.Symbol.{name as #entries·up-to-20}
@@ -123,7 +124,7 @@ module _ {M : Type 1} (𝓤 : URA M) (H : Heap 𝓤) (A : Atoms 𝓤) (W : Given
   abbrev Own : Fml
   Own = ShrSlice (named 0) κ Ly.the-row .own x (v ∷ [])
 
-  exits : (st : Stack) → Is St.the-row st (stack-val st ∷ []) → st ≡ gathered ys
+  exits : (st : Stack) → Is St.the-row st (stack-val st ∷ []) → st ≡ stackOf ys
       → ent 𝓤 (⋆ 𝓤 H A (‵ Own ∷ ‵ (flft κ q) ∷ [])) (Post (stack-val st))
   exits st is g =
       qed W (‵ Own ∷ ‵ (flft κ q) ∷ []) ∵
@@ -154,7 +155,7 @@ module _ {M : Type 1} (𝓤 : URA M) (H : Heap 𝓤) (A : Atoms 𝓤) (W : Given
       join ! $ frame ! $ done !
 
   abbrev Begun : Stack → Type 0
-  Begun r = (es : List Layer) → length es ≡ n → Gathering r es 0
+  Begun r = r ≡ counting n []
 
   said-none : (r : Stack) → ent 𝓤 (ensured 𝓤 H A none.ended (none.clauses 𝓤 H A mem run) tt (n, tt) tt r) (fact 𝓤 (Begun r))
   said-none r = exE 𝓤 _ (λ ws. snd∗ 𝓤 (sem 𝓤 H A (lasts none.ended tt (n, tt) ws)) (fact 𝓤 (Begun r)))
@@ -265,7 +266,7 @@ module _ {M : Type 1} (𝓤 : URA M) (H : Heap 𝓤) (A : Atoms 𝓤) (W : Given
         forget ! 8 refl $
         move ! (8 ∷ 9 ∷ []) $ free1 ! $ move ! (6 ∷ 8 ∷ []) $ free1 ! $ move ! (6 ∷ 7 ∷ []) $ free1 ! $ move ! (0 ∷ 6 ∷ []) $ free1 ! $
         move ! (0 ∷ 5 ∷ []) $ free1 ! $ move ! (0 ∷ 4 ∷ []) $ free1 ! $ move ! (0 ∷ 3 ∷ []) $ free1 ! $ free0 ! $
-        by ! (exits st is (all-in st ys k (e ∙ em) g))
+        by ! (exits st is (all-in ys st k (e ∙ em) g))
 
     -- the invariant, shown
     shown : (t k : ℕ) (st : Stack) → Facts t k st → ent 𝓤 (⋆ 𝓤 H A (At k st)) (Inv t)
@@ -299,7 +300,7 @@ module _ {M : Type 1} (𝓤 : URA M) (H : Heap 𝓤) (A : Atoms 𝓤) (W : Given
     looped st is g = record { prf = loops st is g }
 
   -- the MIR, up to the loop
-  walk : (𝓣 : Tables 𝓤 H) → Triple 𝓤 (𝓣 .C #entries·put) (Put 𝓤 H A mem run) → Triple 𝓤 (𝓣 .C #entries·no-layers) (None 𝓤 H A mem run)
+  walk : (𝓣 : Tables 𝓤 H) → Triple 𝓤 (𝓣 .C #entries·put) (Put 𝓤 H A mem run) → Triple 𝓤 (𝓣 .C #stack·no-layers) (None 𝓤 H A mem run)
       → Triple 𝓤 (𝓣 .C #entries·up-to-20) (Few 𝓤 H A mem run)
       → Room Ly.the-row n → ent 𝓤 (onEntry 𝓤 H A gather.signature (κ, tt) (q, tt) (x, tt) at) (WpFn 𝓤 H (𝓣 .C) (𝓣 .Λ) code.function (v
       ∷ []) Post)
@@ -338,11 +339,11 @@ module _ {M : Type 1} (𝓤 : URA M) (H : Heap 𝓤) (A : Atoms 𝓤) (W : Given
       forget ! 2 refl $ move ! (15 ∷ []) $ fsplit ! $ move ! (16 ∷ []) $ split ! $
       keep ! (10 ∷ 8 ∷ 6 ∷ 4 ∷ 2 ∷ 0 ∷ 14 ∷ 12 ∷ 16 ∷ 17 ∷ 15 ∷ 13 ∷ 11 ∷ 9 ∷ 7 ∷ 5 ∷ []) $
       looped 𝓣 known-put m em (im .1) l₀ l₁ l₂ l₃ l₄ l₅ l₆ st
-      (subst (Is St.the-row st) (LL.tells St.the-type St′.the-laws st (w ∷ []) is) is) (g ys refl))))))))))))))))
+      (subst (Is St.the-row st) (LL.tells St.the-type St′.the-laws st (w ∷ []) is) is) g)))))))))))))))
 
 module _ {M : Type 1} (𝓤 : URA M) (H : Heap 𝓤) (A : Atoms 𝓤) (W : Given 𝓤 H A) (mem : Memory → SProp 𝓤) (run : Routine → Fun 𝓤) where
   gather-walks : (𝓣 : Tables 𝓤 H) → Triple 𝓤 (𝓣 .C #entries·put) (Put 𝓤 H A mem run)
-      → Triple 𝓤 (𝓣 .C #entries·no-layers) (None 𝓤 H A mem run) → Triple 𝓤 (𝓣 .C #entries·up-to-20) (Few 𝓤 H A mem run)
+      → Triple 𝓤 (𝓣 .C #stack·no-layers) (None 𝓤 H A mem run) → Triple 𝓤 (𝓣 .C #entries·up-to-20) (Few 𝓤 H A mem run)
       → Walks 𝓤 H A gather.ended stayed (WpFn 𝓤 H (𝓣 .C) (𝓣 .Λ) code.function) (gather.clauses 𝓤 H A mem run)
   gather-walks 𝓣 known-put known-none known-few =
       walked 𝓤 H A gather.ended stayed (gather.clauses 𝓤 H A mem run) (WpFn 𝓤 H (𝓣 .C) (𝓣 .Λ) code.function)
@@ -353,7 +354,7 @@ module _ {M : Type 1} (𝓤 : URA M) (H : Heap 𝓤) (A : Atoms 𝓤) (W : Given
 
 gather-meets : {M : Type 1} (𝓤 : URA M) (H : Heap 𝓤) (A : Atoms 𝓤) (W : Given 𝓤 H A) (mem : Memory → SProp 𝓤)
     (run : Routine → Fun 𝓤) (𝓣 : Tables 𝓤 H)
-    → Triple 𝓤 (𝓣 .C #entries·put) (Put 𝓤 H A mem run) → Triple 𝓤 (𝓣 .C #entries·no-layers) (None 𝓤 H A mem run)
+    → Triple 𝓤 (𝓣 .C #entries·put) (Put 𝓤 H A mem run) → Triple 𝓤 (𝓣 .C #stack·no-layers) (None 𝓤 H A mem run)
     → Triple 𝓤 (𝓣 .C #entries·up-to-20) (Few 𝓤 H A mem run)
     → Meets 𝓤 H A gather.signature (WpFn 𝓤 H (𝓣 .C) (𝓣 .Λ) code.function) (gather.spec 𝓤 H A mem run)
 gather-meets 𝓤 H A W mem run 𝓣 known-put known-none known-few = walk-meets 𝓤 H A gather.ended stayed W
@@ -368,7 +369,7 @@ gather-spec 𝓤 H 𝓜 𝓖 𝓡 =
     (tables 𝓤 H 𝓜 𝓡 code.env .C) (tables 𝓤 H 𝓜 𝓡 code.env .Λ) #entries·gather code.function (code.unfolded 𝓤 H 𝓜 𝓡)
     (gather-meets 𝓤 H (𝓖 .A) (givenOf 𝓤 H 𝓜 𝓖) (𝓜 .mem) (𝓡 .run) (tablesOf 𝓤 H 𝓜 (tables 𝓤 H 𝓜 𝓡 code.env))
     (cited 𝓤 H (Put 𝓤 H (𝓖 .A) (𝓜 .mem) (𝓡 .run)) 𝓜 𝓡 code.env #entries·put put-def.routine code.calls-entries·put (put-thm.met 𝓤 H 𝓜 𝓖 𝓡))
-    (cited 𝓤 H (None 𝓤 H (𝓖 .A) (𝓜 .mem) (𝓡 .run)) 𝓜 𝓡 code.env #entries·no-layers none-def.routine code.calls-entries·no-layers
+    (cited 𝓤 H (None 𝓤 H (𝓖 .A) (𝓜 .mem) (𝓡 .run)) 𝓜 𝓡 code.env #stack·no-layers none-def.routine code.calls-stack·no-layers
     (none-thm.met 𝓤 H 𝓜 𝓖 𝓡))
     (cited 𝓤 H (Few 𝓤 H (𝓖 .A) (𝓜 .mem) (𝓡 .run)) 𝓜 𝓡 code.env #entries·up-to-20 few-def.routine code.calls-entries·up-to-20
     (few-thm.met 𝓤 H 𝓜 𝓖 𝓡)))

@@ -46,16 +46,18 @@ use denote.Exit.{yes}
 use Rattle.stack.specs.declared.Layer.{Layer}
 use Rattle.stack.specs.declared.Stack.{Stack}
 use Rattle.stack.specs.Entries.{noLayer, entry}
+use Rattle.stack.specs.Laid.{withLayer}
 use Rattle.stack.proofs.Layer as Ly
 use Rattle.stack.proofs.Layer.Laws as Ly′
 use Rattle.stack.proofs.Stack as St
 use Rattle.stack.proofs.Stack.Laws as St′
 use Rattle.entries.specs.Gathering.{Gathering}
 use Rattle.entries.proofs.Walking.{layer-val, stack-val, place-fits}
-use Rattle.entries.proofs.with_layer as with
-use Rattle.entries.proofs.with_layer.Symbol as with-def
-use Rattle.entries.proofs.with_layer.Symbol.{name as #entries·with-layer}
-use Rattle.entries.proofs.with_layer.Met as with-thm
+use Rattle.stack.proofs.with_layer as with
+use Rattle.stack.proofs.with_layer.Symbol as with-def
+use Rattle.stack.proofs.with_layer.Symbol.{name as #stack·with-layer}
+use Rattle.stack.proofs.with_layer.Met as with-thm
+use Rattle.entries.proofs.GatherLaws.{put-next}
 use Rattle.entries.proofs.put.Key.{name as #entries·put}
 use Rattle.entries.proofs.put as put
 use Rattle.entries.proofs.put.Statement as stated
@@ -97,15 +99,16 @@ module _ {M : Type 1} (𝓤 : URA M) (H : Heap 𝓤) (A : Atoms 𝓤) (W : Given
   abbrev to : With 𝓤 H A mem run .Ghost
   to = ((tt, tt, tt, (st, (k, (e, tt))), passed), tt)
 
-  asked : k < 20 → k < 2 ^ 64 → Is St.the-row st (stack-val st ∷ []) → Is Ly.the-row e (layer-val e ∷ [])
+  asked : k < 2 ^ 64 → Is St.the-row st (stack-val st ∷ []) → Is Ly.the-row e (layer-val e ∷ [])
       → ent 𝓤 (emp 𝓤) (With 𝓤 H A mem run .pre to)
-  asked few fits is ie =
-      qed W [] ∵ says ! few $ nothing ! $ owned ! Ly.the-row (Is Ly.the-row) (LL.makes Ly.the-type Ly′.the-plain 𝓤 H A) e _ ie $ fjoin ! $
+  asked fits is ie =
+      qed W [] ∵ nothing ! $ owned ! Ly.the-row (Is Ly.the-row) (LL.makes Ly.the-type Ly′.the-plain 𝓤 H A) e _ ie $ fjoin ! $
       owned ! usize (Is usize) (uint-makes 𝓤 H A W w64) k _ (refl, fits) $ fjoin ! $
-      owned ! St.the-row (Is St.the-row) (LL.makes St.the-type St′.the-plain 𝓤 H A) st _ is $ fjoin ! $ nothing ! $ done !
+      owned ! St.the-row (Is St.the-row) (LL.makes St.the-type St′.the-plain 𝓤 H A) st _ is $ fjoin ! $ nothing ! $
+      join ! $ frame ! $ done !
 
   abbrev Said : Stack → Type 0
-  Said r = (es : List Layer) → Gathering st es k → entry es k ≡ e → Gathering r es (suc k)
+  Said r = r ≡ withLayer st k e
 
   -- of the callee's `ensured`, the clause alone
   said : (r : Stack) → ent 𝓤 (ensured 𝓤 H A with.ended (with.clauses 𝓤 H A mem run) tt (st, (k, (e, tt))) tt r) (fact 𝓤 (Said r))
@@ -119,7 +122,7 @@ module _ {M : Type 1} (𝓤 : URA M) (H : Heap 𝓤) (A : Atoms 𝓤) (W : Given
       (tt, (tt, (tt, tt))) (tt, (tt, (tt, tt)))) $ says ! g $
       nothing ! $ move ! (1 ∷ 0 ∷ []) $ join ! $ move ! (1 ∷ 2 ∷ []) $ fjoin ! $ move ! (1 ∷ 0 ∷ []) $ frame ! $ frame ! $ done !
 
-  module _ (C : Calls 𝓤 H) (Λ : Loops 𝓤 H) (fm : FmC 𝓤 H (W .laws) C) (known : Triple 𝓤 (C #entries·with-layer) (With 𝓤 H A mem run)) where
+  module _ (C : Calls 𝓤 H) (Λ : Loops 𝓤 H) (fm : FmC 𝓤 H (W .laws) C) (known : Triple 𝓤 (C #stack·with-layer) (With 𝓤 H A mem run)) where
     walk : Room Ly.the-row (length ys) → Is St.the-row st (stack-val st ∷ []) → k < 2 ^ 64 → k < length ys → k < 20 → Gathering st ys k
         → ent 𝓤 (onEntry 𝓤 H A put.signature (κ, tt) (q, tt) (x, (st, (k, tt))) at) (WpFn 𝓤 H C Λ code.function (sliceVal (b, o) (length ys)
         ∷ stack-val st ∷ vint w64 k ∷ []) Post)
@@ -147,7 +150,7 @@ module _ {M : Type 1} (𝓤 : URA M) (H : Heap 𝓤) (A : Atoms 𝓤) (W : Given
         elem-back ! Ly.the-row q′ ys k noLayer (layer-val e ∷ []) b o l $ shuts-slice ! tt Ly.the-row q′ ys b o $
         move ! (3 ∷ 1 ∷ []) $ fjoin ! $ move ! (3 ∷ 0 ∷ []) $ fjoin ! $
         -- [what the slice owns; the token; true; the rest; _6; …]
-        use0 W (raw (With 𝓤 H A mem run .pre to)) (asked few gk is ie) $
+        use0 W (raw (With 𝓤 H A mem run .pre to)) (asked gk is ie) $
         calls-at ! fm (With 𝓤 H A mem run) known to (and-then ! (load ! (from ! (stop !)) (look ! 13 refl))
         (and-then ! (load ! (from ! (stop !)) (look ! 11 refl)) (and-then ! (load ! (from ! (stop !)) (look ! 5 refl)) (no-more !)))) (λ u.
         use1 W (later (some (λ (r : Stack). (‵ ftrue ⊛ ‵ (St.the-row .own r (u ∷ [])))
@@ -161,10 +164,10 @@ module _ {M : Type 1} (𝓤 : URA M) (H : Heap 𝓤) (A : Atoms 𝓤) (W : Given
         move ! (18 ∷ 19 ∷ []) $ free1 ! $ move ! (16 ∷ 17 ∷ []) $ free1 ! $ move ! (14 ∷ 15 ∷ []) $ free1 ! $ move ! (12 ∷ 13 ∷ []) $
         free1 ! $
         move ! (10 ∷ 11 ∷ []) $ free1 ! $ move ! (8 ∷ 9 ∷ []) $ free1 ! $ move ! (6 ∷ 7 ∷ []) $ free1 ! $ free0 ! $
-        keep ! (3 ∷ 2 ∷ 5 ∷ 0 ∷ []) $ by ! (exits r u (f ys held refl)))))))))))))))
+        keep ! (3 ∷ 2 ∷ 5 ∷ 0 ∷ []) $ by ! (exits r u (put-next ys st r k l few held f)))))))))))))))
 
 module _ {M : Type 1} (𝓤 : URA M) (H : Heap 𝓤) (A : Atoms 𝓤) (W : Given 𝓤 H A) (mem : Memory → SProp 𝓤) (run : Routine → Fun 𝓤) where
-  put-walks : (C : Calls 𝓤 H) (Λ : Loops 𝓤 H) → FmC 𝓤 H (W .laws) C → Triple 𝓤 (C #entries·with-layer) (With 𝓤 H A mem run)
+  put-walks : (C : Calls 𝓤 H) (Λ : Loops 𝓤 H) → FmC 𝓤 H (W .laws) C → Triple 𝓤 (C #stack·with-layer) (With 𝓤 H A mem run)
       → Walks 𝓤 H A put.ended stayed (WpFn 𝓤 H C Λ code.function) (put.clauses 𝓤 H A mem run)
   put-walks C Λ fm known = walked 𝓤 H A put.ended stayed (put.clauses 𝓤 H A mem run) (WpFn 𝓤 H C Λ code.function)
       (λ κs. (slice-vals, (LL.vals St.the-type St′.the-laws, (uint-vals w64, tt)))) (λ κs.
@@ -175,7 +178,7 @@ module _ {M : Type 1} (𝓤 : URA M) (H : Heap 𝓤) (A : Atoms 𝓤) (W : Given
 
 put-meets : {M : Type 1} (𝓤 : URA M) (H : Heap 𝓤) (A : Atoms 𝓤) (W : Given 𝓤 H A) (mem : Memory → SProp 𝓤)
     (run : Routine → Fun 𝓤) (𝓣 : Tables 𝓤 H)
-    → Triple 𝓤 (𝓣 .C #entries·with-layer) (With 𝓤 H A mem run)
+    → Triple 𝓤 (𝓣 .C #stack·with-layer) (With 𝓤 H A mem run)
     → Meets 𝓤 H A put.signature (WpFn 𝓤 H (𝓣 .C) (𝓣 .Λ) code.function) (put.spec 𝓤 H A mem run)
 put-meets 𝓤 H A W mem run 𝓣 known =
     walk-meets 𝓤 H A put.ended stayed W
@@ -189,5 +192,5 @@ put-spec 𝓤 H 𝓜 𝓖 𝓡 =
     entered 𝓤 H (tripleOf 𝓤 H (𝓖 .A) put.signature (put.spec 𝓤 H (𝓖 .A) (𝓜 .mem) (𝓡 .run)))
     (tables 𝓤 H 𝓜 𝓡 code.env .C) (tables 𝓤 H 𝓜 𝓡 code.env .Λ) #entries·put code.function (code.unfolded 𝓤 H 𝓜 𝓡)
     (put-meets 𝓤 H (𝓖 .A) (givenOf 𝓤 H 𝓜 𝓖) (𝓜 .mem) (𝓡 .run) (tablesOf 𝓤 H 𝓜 (tables 𝓤 H 𝓜 𝓡 code.env))
-    (cited 𝓤 H (With 𝓤 H (𝓖 .A) (𝓜 .mem) (𝓡 .run)) 𝓜 𝓡 code.env #entries·with-layer with-def.routine code.calls-entries·with-layer
+    (cited 𝓤 H (With 𝓤 H (𝓖 .A) (𝓜 .mem) (𝓡 .run)) 𝓜 𝓡 code.env #stack·with-layer with-def.routine code.calls-stack·with-layer
     (with-thm.met 𝓤 H 𝓜 𝓖 𝓡)))
