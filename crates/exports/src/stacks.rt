@@ -1,50 +1,42 @@
 // The entry points for a stack and its strips. Each gathers the lent entries and calls a function on the stack, which is passed by value.
 ghost use mathlib.Core.Path.{_≡_};
-ghost use mathlib.Core.List.{List};
-ghost use Rattle.stack.specs.declared.Layer.{Layer};
-ghost use Rattle.stack.specs.declared.StackJudgement.{StackJudgement};
 ghost use Rattle.stack.specs.Faults.{StackJudged};
-ghost use Rattle.stack.specs.Gathered.{Gathers};
-ghost use Rattle.bands.specs.declared.Banded.{Banded};
+ghost use Rattle.stack.specs.Laid.{laid};
 ghost use Rattle.bands.specs.Bands.{BandsAnswer};
-ghost use Rattle.mesh.specs.declared.Volumed.{Volumed};
-ghost use Rattle.mesh.specs.declared.Meshed.{Meshed};
 ghost use Rattle.mesh.specs.Meshing.{Measured, Triangled};
+ghost use Rattle.exports.specs.Shown.{Shows};
 ghost use Rattle.exports.specs.Stacks.{stackAs, bandedAs, volumedAs, meshedAs};
 use crate::Answer;
-use crate::found;
-use crate::refused;
 use bands::Banded;
 use entries::gather;
-use fault::number;
+use fault::Status;
+use fault::refused;
+use fault::succeeded;
 use mesh::Meshed;
 use mesh::Volumed;
 use stack::Layer;
 use stack::Stack;
 use stack::StackJudgement;
 
-// A stack's numbers of points and of steps of all bands, or a refusal.
+// A stack's numbers of points and of steps of all bands.
 #[repr(C)]
 pub struct StackAnswer {
-    pub number: u8,
-    pub place: usize,
+    pub status: Status,
     pub points: usize,
     pub steps: usize,
 }
 
-// The number of steps that were written, or a refusal.
+// The number of steps that were written.
 #[repr(C)]
 pub struct StepsAnswer {
-    pub number: u8,
-    pub place: usize,
+    pub status: Status,
     pub steps: usize,
 }
 
-// The number of triangles that were written and six times the volume, or a refusal.
+// The number of triangles that were written, and six times the volume.
 #[repr(C)]
 pub struct MeshAnswer {
-    pub number: u8,
-    pub place: usize,
+    pub status: Status,
     pub triangles: usize,
     pub six: i64,
 }
@@ -52,31 +44,25 @@ pub struct MeshAnswer {
 // The judgement of a stack.
 #[no_mangle]
 pub extern "C" fn register_judge_stack(layers: &[Layer], coords: &[i32]) -> StackAnswer
-    ensures { λ r. ⌜ ((x : StackJudgement) × (StackJudged (now (layers .entry)) (now (coords .entry)) x × (r ≡ stackAs x))) ⌝ }
+    ensures { λ r. ⌜ Shows (StackJudged (now (layers .entry)) (now (coords .entry))) stackAs r ⌝ }
 {
     stack_judged(gather(layers), coords)
 }
 
 fn stack_judged(stack: Stack, coords: &[i32]) -> StackAnswer
-    ensures { λ r. ⌜ ((x : StackJudgement) × (((es : List Layer) → Gathers stack es
-        → StackJudged es (now (coords .entry)) x) × (r ≡ stackAs x))) ⌝ }
+    ensures { λ r. ⌜ Shows (StackJudged (laid stack) (now (coords .entry))) stackAs r ⌝ }
 {
     match stack::judge_stack(stack, coords) {
         StackJudgement::Fit { points, steps } => StackAnswer {
-            number: 0,
-            place: 0,
+            status: succeeded(),
             points,
             steps,
         },
-        StackJudgement::Refused(refusal) => {
-            let fault = refusal.fault;
-            StackAnswer {
-                number: number(fault),
-                place: refusal.place,
-                points: 0,
-                steps: 0,
-            }
-        }
+        StackJudgement::Refused(refusal) => StackAnswer {
+            status: refused(refusal),
+            points: 0,
+            steps: 0,
+        },
     }
 }
 
@@ -88,49 +74,48 @@ pub extern "C" fn register_best_strips(
     strips: &mut [u8],
     work: &mut [u8],
 ) -> StepsAnswer
-    ensures { λ r. ⌜ ((x : Banded) × (BandsAnswer (now (layers .entry)) (now (coords .entry)) (now (strips .entry))
-        (now (work .entry)) (now (strips .exit)) (now (work .exit)) x × (r ≡ bandedAs x))) ⌝ }
+    ensures { λ r. ⌜ Shows (BandsAnswer (now (layers .entry)) (now (coords .entry)) (now (strips .entry)) (now (work .entry))
+        (now (strips .exit)) (now (work .exit))) bandedAs r ⌝ }
 {
     strips_filled(gather(layers), coords, strips, work)
 }
 
 fn strips_filled(stack: Stack, coords: &[i32], strips: &mut [u8], work: &mut [u8]) -> StepsAnswer
-    ensures { λ r. ⌜ ((x : Banded) × (((es : List Layer) → Gathers stack es
-        → BandsAnswer es (now (coords .entry)) (now (strips .entry)) (now (work .entry)) (now (strips .exit)) (now (work .exit)) x)
-        × (r ≡ bandedAs x))) ⌝ }
+    ensures { λ r. ⌜ Shows (BandsAnswer (laid stack) (now (coords .entry)) (now (strips .entry)) (now (work .entry))
+        (now (strips .exit)) (now (work .exit))) bandedAs r ⌝ }
 {
     match bands::best_strips(stack, coords, strips, work) {
         Banded::Steps(steps) => StepsAnswer {
-            number: 0,
-            place: 0,
+            status: succeeded(),
             steps,
         },
-        Banded::Refused(refusal) => {
-            let fault = refusal.fault;
-            StepsAnswer {
-                number: number(fault),
-                place: refusal.place,
-                steps: 0,
-            }
-        }
+        Banded::Refused(refusal) => StepsAnswer {
+            status: refused(refusal),
+            steps: 0,
+        },
     }
 }
 
 // Six times the volume.
 #[no_mangle]
 pub extern "C" fn register_volume(layers: &[Layer], coords: &[i32], strips: &[u8]) -> Answer
-    ensures { λ r. ⌜ ((x : Volumed) × (Measured (now (layers .entry)) (now (coords .entry)) (now (strips .entry)) x × (r ≡ volumedAs x))) ⌝ }
+    ensures { λ r. ⌜ Shows (Measured (now (layers .entry)) (now (coords .entry)) (now (strips .entry))) volumedAs r ⌝ }
 {
     volume_found(gather(layers), coords, strips)
 }
 
 fn volume_found(stack: Stack, coords: &[i32], strips: &[u8]) -> Answer
-    ensures { λ r. ⌜ ((x : Volumed) × (((es : List Layer) → Gathers stack es
-        → Measured es (now (coords .entry)) (now (strips .entry)) x) × (r ≡ volumedAs x))) ⌝ }
+    ensures { λ r. ⌜ Shows (Measured (laid stack) (now (coords .entry)) (now (strips .entry))) volumedAs r ⌝ }
 {
     match mesh::volume(stack, coords, strips) {
-        Volumed::Six(six) => found(six),
-        Volumed::Refused(refusal) => refused(refusal),
+        Volumed::Six(six) => Answer {
+            status: succeeded(),
+            value: six,
+        },
+        Volumed::Refused(refusal) => Answer {
+            status: refused(refusal),
+            value: 0,
+        },
     }
 }
 
@@ -142,31 +127,25 @@ pub extern "C" fn register_triangles(
     strips: &[u8],
     out: &mut [u32],
 ) -> MeshAnswer
-    ensures { λ r. ⌜ ((x : Meshed) × (Triangled (now (layers .entry)) (now (coords .entry)) (now (strips .entry)) (now (out .entry))
-        (now (out .exit)) x × (r ≡ meshedAs x))) ⌝ }
+    ensures { λ r. ⌜ Shows (Triangled (now (layers .entry)) (now (coords .entry)) (now (strips .entry)) (now (out .entry)) (now (out .exit)))
+        meshedAs r ⌝ }
 {
     list_closed(gather(layers), coords, strips, out)
 }
 
 fn list_closed(stack: Stack, coords: &[i32], strips: &[u8], out: &mut [u32]) -> MeshAnswer
-    ensures { λ r. ⌜ ((x : Meshed) × (((es : List Layer) → Gathers stack es
-        → Triangled es (now (coords .entry)) (now (strips .entry)) (now (out .entry)) (now (out .exit)) x) × (r ≡ meshedAs x))) ⌝ }
+    ensures { λ r. ⌜ Shows (Triangled (laid stack) (now (coords .entry)) (now (strips .entry)) (now (out .entry)) (now (out .exit))) meshedAs r ⌝ }
 {
     match mesh::triangles(stack, coords, strips, out) {
         Meshed::Closed { triangles, six } => MeshAnswer {
-            number: 0,
-            place: 0,
+            status: succeeded(),
             triangles,
             six,
         },
-        Meshed::Refused(refusal) => {
-            let fault = refusal.fault;
-            MeshAnswer {
-                number: number(fault),
-                place: refusal.place,
-                triangles: 0,
-                six: 0,
-            }
-        }
+        Meshed::Refused(refusal) => MeshAnswer {
+            status: refused(refusal),
+            triangles: 0,
+            six: 0,
+        },
     }
 }
