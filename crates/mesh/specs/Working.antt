@@ -23,8 +23,8 @@ pub record Fitted (st : Stack) (c : List ℤ) (l : List ℕ) : Type 0 where
 
 -- a stack whose triangles can be counted
 pub record Sized (st : Stack) : Type 0 where
-  pub some : 0 < st .layers
-  pub twenty : st .layers ≤ 20
-  pub three : (k : ℕ) → k < st .layers → 3 ≤ entry (laid st) k .count
-  pub many : (k : ℕ) → k < st .layers → entry (laid st) k .count ≤ 250
+  pub some : 0 < st .count
+  pub twenty : st .count ≤ 20
+  pub three : (k : ℕ) → k < st .count → 3 ≤ entry (laid st) k .count
+  pub many : (k : ℕ) → k < st .count → entry (laid st) k .count ≤ 250
   pub steps : steps (laid st) ≤ 9500
