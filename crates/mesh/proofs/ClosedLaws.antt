@@ -67,6 +67,12 @@ closed-length {es} {l} r h =
       cap-length false (entry es (length es - 1)),
     )
 
+-- as the code counts them: n steps of all bands, and the caps of the bottom layer d and the top layer g
+pub triangles-counted : (st : Stack) {n : ℕ} {d g : Layer} → n ≡ steps (laid st) → d ≡ entry (laid st) 0
+    → g ≡ entry (laid st) (st .count - 1) → n + (d .count - 2) + (g .count - 2) ≡ triangles (laid st)
+unfolding triangles
+triangles-counted st h p q = rw (h, p, q, laid-long st)
+
 -- ---- small numbers
 
 stops-within : {es : List Layer} {c : List ℤ} → AcceptedStack es c → (k : ℕ) → k < length es → stop (entry es k) ≤ suc k * 250
@@ -168,14 +174,8 @@ abbrev pub bandsOf : Stack → List ℕ → List Tri
 bandsOf st l = bandsTo (laid st) l (st .count - 1)
 
 module _ {st : Stack} {l : List ℕ} {n : ℕ} {old : List ℕ} {d g : Layer} (a : Capped st l n old d g) where
-  top-layer : g ≡ entry (laid st) (length (laid st) - 1)
-  top-layer = a .top ∙ ap (λ (n : ℕ). entry (laid st) (n - 1)) (sym (laid-long st))
-
   pub whole-room : 3 * n + 3 * (d .count - 2) + 3 * (g .count - 2) ≤ length old
-  unfolding triangles
-  whole-room =
-      let all : 3 * (steps (laid st) + (d .count - 2) + (g .count - 2)) ≤ length old = rw (a .bottom, top-layer) (a .room) in
-      omega (arith, a .taken)
+  whole-room = omega (arith, a .room, triangles-counted st (a .taken) (a .bottom) (a .top))
 
   pub bottom-drawn : Numbered d × (3 ≤ d .count)
   bottom-drawn = rw (a .bottom) (a .drawn .numbered 0 (a .drawn .some), a .drawn .three 0 (a .drawn .some))

@@ -2,7 +2,7 @@
 -- at the front of the slice are the closed list. Assumes nothing.
 use mathlib.Core.Path.{_≡_, sym, _∙_}
 use mathlib.Core.List.{List}
-use Prim.Native.Nat.{ℕ, _+_, _-_, _*_, _≤_, _<_}
+use Prim.Native.Nat.{ℕ, _-_, _*_, _≤_, _<_}
 use native.Mathlib.Omega.{arith}
 use lib.IntN.{ℤ}
 use lib.ListN.{length}
@@ -11,7 +11,7 @@ use mir.Val.{toZ, ofZ}
 use Rattle.whole.proofs.Machine.{held, from}
 use Rattle.stack.specs.declared.Layer.{Layer}
 use Rattle.stack.specs.declared.Stack.{Stack}
-use Rattle.stack.specs.Entries.{entry, steps}
+use Rattle.stack.specs.Entries.{entry}
 use Rattle.stack.specs.Faults.{AcceptedStack}
 use Rattle.stack.specs.Laid.{laid}
 use Rattle.stack.proofs.Laying.{laid-long, laid-twenty}
@@ -50,11 +50,6 @@ sized {st} a = record {
 -- the counts of a layer
 pub in-sized : {st : Stack} {k : ℕ} {e : Layer} → Sized st → k < st .count → e ≡ entry (laid st) k → (3 ≤ e .count) × (e .count ≤ 250)
 in-sized {st} {k} {e} s h p = rw p (s .three k h, s .many k h)
-
-pub triangles-counted : (st : Stack) {n : ℕ} {d e : Layer} → n ≡ steps (laid st) → d ≡ entry (laid st) 0
-    → e ≡ entry (laid st) (st .count - 1) → n + (d .count - 2) + (e .count - 2) ≡ triangles (laid st)
-unfolding triangles
-triangles-counted st h p q = rw (h, p, q, laid-long st)
 
 pub triangles-few : {st : Stack} → Sized st → triangles (laid st) ≤ 10000
 unfolding triangles

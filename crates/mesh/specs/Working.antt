@@ -16,7 +16,7 @@ pub record Joined (a b : List ℤ) (l : List ℕ) : Type 0 where
   pub pair : Pair a b
   pub strip : IsStrip (count a) (count b) l
 
--- an accepted stack with its strips, by its arrays
+-- an accepted stack, by value, with its strips
 pub record Fitted (st : Stack) (c : List ℤ) (l : List ℕ) : Type 0 where
   pub stack : AcceptedStack (laid st) c
   pub strips : StripsRight (laid st) l
