@@ -24,12 +24,16 @@ enum-known-refusal c = search needs
 returns : tie.Need-returns
 returns c = refused (inl (stack-stopped (c .before .before .before .judge-stack .ensures) (c .before .refusal .given .1)))
 
--- the stack is accepted, and so many steps are its bands'
-accepted : (c : tie.After-known-told) →
-    let a = c .before .before .before .before .before .before .args in AcceptedStack (laid (a .stack)) (a .coords .now)
+-- the entry, where the judgement is "fit"
+abbrev begun : tie.After-known-told → tie.Start
+begun c = c .before .before .before .before .before .before
+
+-- then the stack is accepted
+accepted : (c : tie.After-known-told) → let a = begun c .args in AcceptedStack (laid (a .stack)) (a .coords .now)
 accepted c = stack-fit (c .before .before .before .judge-stack .ensures) (c .before .steps .given .1)
 
-counted : (c : tie.After-known-told) → c .before .steps .given .0 .1 .0 ≡ steps (laid (c .before .before .before .before .before .before .args .stack))
+-- and its bands have as many steps as the judgement tells
+counted : (c : tie.After-known-told) → c .before .steps .given .0 .1 .0 ≡ steps (laid (begun c .args .stack))
 counted c = stack-steps (c .before .before .before .judge-stack .ensures) (c .before .steps .given .1)
 
 no-room-requires : tie.Need-no-room-requires
@@ -52,9 +56,7 @@ returns-3 c =
     no-work (accepted (cells .before .before)) (c .no-room2 .ensures) (cells .most-cells .ensures) (omega (arith, c .before .if2 .taken))
 
 -- there is room for all bands
-roomy : (c : tie.Else2) →
-    let a = c .before .before .before .before .before .before .before .before .before .args in
-    EnoughRoom (laid (a .stack)) (a .strips .now) (a .work .now)
+roomy : (c : tie.Else2) → let a = begun (c .before .before .before) .args in EnoughRoom (laid (a .stack)) (a .strips .now) (a .work .now)
 roomy c = record {
   forStrips = omega (arith, counted (c .before .before .before), c .before .before .if1 .left);
   forWork = omega (arith, c .before .most-cells .ensures, c .if2 .left);

@@ -25,12 +25,16 @@ enum-known-refusal c = search needs
 returns : tie.Need-returns
 returns c = list-stack (stack-stopped (c .before .before .before .judge-stack .ensures) (c .before .refusal .given .1))
 
--- the stack is accepted, and so many steps are its bands'
-accepted : (c : tie.After-known-told) →
-    let a = c .before .before .before .before .before .before .args in AcceptedStack (laid (a .stack)) (a .coords .now)
+-- the entry, where the judgement is "fit"
+abbrev begun : tie.After-known-told → tie.Start
+begun c = c .before .before .before .before .before .before
+
+-- then the stack is accepted
+accepted : (c : tie.After-known-told) → let a = begun c .args in AcceptedStack (laid (a .stack)) (a .coords .now)
 accepted c = stack-fit (c .before .before .before .judge-stack .ensures) (c .before .steps .given .1)
 
-counted : (c : tie.After-known-told) → c .before .steps .given .0 .1 .0 ≡ steps (laid (c .before .before .before .before .before .before .args .stack))
+-- and its bands have as many steps as the judgement tells
+counted : (c : tie.After-known-told) → c .before .steps .given .0 .1 .0 ≡ steps (laid (begun c .args .stack))
 counted c = stack-steps (c .before .before .before .judge-stack .ensures) (c .before .steps .given .1)
 
 triangle-count-requires : tie.Need-triangle-count-requires
@@ -66,8 +70,7 @@ returns-3 c =
 
 -- and its strips are right
 fitted : (c : tie.After-enum-told) →
-    let a = c .before .before .before .before .before .before .before .before .before .before .before .args in
-    Fitted (a .stack) (a .coords .now) (a .strips .now)
+    let a = begun (c .before .before .before .before .before) .args in Fitted (a .stack) (a .coords .now) (a .strips .now)
 fitted c =
     let judged = c .before .before in record {
       stack = accepted (judged .before .before .before);
