@@ -69,7 +69,7 @@ cells-within es k h = under (cellsTo es k) (cells es k) (cells-below es (suc k) 
 product-within : (m n : ℕ) → m ≤ 251 → n ≤ 251 → m * n ≤ 63001
 product-within m n h g = omega (arith, mul-le-mul h g)
 
-module _ {st : Stack} {k : ℕ} {d e : Layer} (s : Sized st) (h : suc k < st .layers) (p : d ≡ entry (laid st) k)
+module _ {st : Stack} {k : ℕ} {d e : Layer} (s : Sized st) (h : suc k < st .count) (p : d ≡ entry (laid st) k)
     (q : e ≡ entry (laid st) (k + 1)) where
   pub counts-small : (d .count ≤ 250) × (e .count ≤ 250)
   counts-small = (

@@ -2,8 +2,8 @@
 -- lent memory as it was. And what success fills in are strips of the stack, so that they are accepted where strips are judged; every
 -- accepted stack has them.
 --
--- What the gates stop has not passed them; where both are strips, each band's first best strip
--- is one, so the bytes agree band by band from the bottom up. Assumes nothing.
+-- What the gates stop has not passed them; where both are strips, each band's first best strip is one, so the bytes agree band by band
+-- from the bottom up. Assumes nothing.
 use mathlib.Core.Path.{_≡_, refl, sym, ap, ap₂, _∙_}
 use mathlib.Core.List.{List, [], _++_}
 use Prim.Native.Nat.{ℕ, zero, suc, _+_, _-_, _<_}
@@ -21,15 +21,11 @@ use Rattle.strip.specs.Bytes.{bytes}
 use Rattle.joining.specs.Answers.{FirstOf, Untouched}
 use Rattle.joining.specs.Outcomes.{Same}
 use Rattle.stack.specs.declared.Layer.{Layer}
-use Rattle.stack.specs.declared.Stack.{Stack}
 use Rattle.stack.specs.Entries.{entry, traceOf, steps, bandStart}
 use Rattle.stack.specs.Faults.{AcceptedStack}
 use Rattle.stack.specs.Strips.{bandPart, StripsRight}
-use Rattle.stack.specs.Gathered.{Gathers}
-use Rattle.stack.specs.Laid.{laid}
 use Rattle.fault.proofs.GateLaws.{due-single, holds, one-stop, stopped-not-passed}
 use Rattle.stack.proofs.Cases.{stack-single, stack-open}
-use Rattle.stack.proofs.Laying.{laid-gathers}
 use Rattle.stack.proofs.StackLaws.{band-all}
 use Rattle.bands.specs.declared.Banded.{Banded}
 use Rattle.bands.specs.declared.Banded.the-variants as bands-are
@@ -105,9 +101,3 @@ module _ {es : List Layer} {c : List ℤ} {strips work : List ℕ} where
   pub bands-refused-untouched : {r : Refusal} {s w : List ℕ} → BandsAnswer es c strips work s w (bands-are.Refused r)
       → Untouched strips work s w
   bands-refused-untouched (refused _) = record { stripSame = refl; workSame = refl }
-
--- `best_strips` leaves one answer for each input: every Stack gathers some entries.
-pub best-strips-unique : (st : Stack) (c : List ℤ) (strips work : List ℕ) {r r′ : Banded} {s s′ w w′ : List ℕ}
-    → ((es : List Layer) → Gathers st es → BandsAnswer es c strips work s w r)
-    → ((es : List Layer) → Gathers st es → BandsAnswer es c strips work s′ w′ r′) → Same r r′ s s′ w w′
-best-strips-unique st c strips work p q = bands-unique (p (laid st) (laid-gathers st)) (q (laid st) (laid-gathers st))

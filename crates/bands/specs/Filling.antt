@@ -24,13 +24,13 @@ cellsTo es (suc k) = max (cellsTo es k) (cells es k)
 
 -- a stack whose work bytes can be counted
 pub record Sized (st : Stack) : Type 0 where
-  pub twenty : st .layers ≤ 20
-  pub many : (k : ℕ) → k < st .layers → entry (laid st) k .count ≤ 250
+  pub twenty : st .count ≤ 20
+  pub many : (k : ℕ) → k < st .count → entry (laid st) k .count ≤ 250
 
 -- what the strip of band k asks
 pub record BandReady (st : Stack) (c : List ℤ) (k : ℕ) (part work : List ℕ) : Type 0 where
   pub stack : AcceptedStack (laid st) c
-  pub band : suc k < st .layers
+  pub band : suc k < st .count
   pub forPart : entry (laid st) k .count + entry (laid st) (suc k) .count ≤ length part
   pub forWork : cells (laid st) k ≤ length work
 

@@ -1,20 +1,17 @@
 // The first best strip of every band of a stack, one after another.
 ghost use mathlib.Core.Path.{_≡_};
-ghost use mathlib.Core.List.{List};
 ghost use Prim.Native.Nat.{suc, _<_, max};
 ghost use Rattle.fault.specs.Gates.{at};
-ghost use Rattle.stack.specs.declared.Layer.{Layer};
 ghost use Rattle.stack.specs.Faults.{AcceptedStack};
-ghost use Rattle.stack.specs.Gathered.{Gathers};
 ghost use Rattle.stack.specs.Laid.{laid};
 ghost use Rattle.bands.specs.Bands.{mostCells, EnoughRoom, BandsAnswer};
 ghost use Rattle.bands.specs.Filling.{cells, Sized, BandReady, BandFilled, BandsFilled};
 use fault::Fault;
 use fault::Refusal;
+use fault::refuse;
 use stack::Stack;
 use stack::StackJudgement;
 use stack::layer_at;
-use stack::stack_refusal;
 use stack::trace_of;
 
 pub enum Banded {
@@ -25,12 +22,12 @@ pub enum Banded {
 
 // Takes every stack and every slice. The room is held against all bands before anything is written, so a refusal touches nothing.
 pub fn best_strips(stack: Stack, coords: &[i32], strips: &mut [u8], work: &mut [u8]) -> Banded
-    ensures { λ r. ⌜ ((es : List Layer) → Gathers stack es
-        → BandsAnswer es (now (coords .entry)) (now (strips .entry)) (now (work .entry)) (now (strips .exit)) (now (work .exit)) r) ⌝ }
+    ensures { λ r. ⌜ BandsAnswer (laid stack) (now (coords .entry)) (now (strips .entry)) (now (work .entry))
+        (now (strips .exit)) (now (work .exit)) r ⌝ }
 {
-    let judged = stack::judge_stack(stack, coords);
-    let StackJudgement::Fit { points: _, steps } = judged else {
-        return Banded::Refused(stack_refusal(judged));
+    let steps = match stack::judge_stack(stack, coords) {
+        StackJudgement::Fit { points: _, steps } => steps,
+        StackJudgement::Refused(refusal) => return Banded::Refused(refusal),
     };
     if strips.len() < steps {
         return no_room();
@@ -45,15 +42,12 @@ pub fn best_strips(stack: Stack, coords: &[i32], strips: &mut [u8], work: &mut [
 fn no_room() -> Banded
     ensures { λ r. ⌜ r ≡ Banded.Refused (at Fault.Room 0) ⌝ }
 {
-    Banded::Refused(Refusal {
-        fault: Fault::Room,
-        place: 0,
-    })
+    Banded::Refused(refuse(Fault::Room, 0))
 }
 
 // The work bytes of band `k`.
 fn cells_of(stack: Stack, k: usize) -> usize
-    requires { ⌜ Sized stack × (suc k < stack .layers) ⌝ }
+    requires { ⌜ Sized stack × (suc k < stack .count) ⌝ }
     ensures { λ r. ⌜ r ≡ cells (laid stack) k ⌝ }
 {
     let lower = layer_at(stack, k);
@@ -72,7 +66,7 @@ fn most_cells(stack: Stack) -> usize
     requires { ⌜ Sized stack ⌝ }
     ensures { λ r. ⌜ r ≡ mostCells (laid stack) ⌝ }
 {
-    let layers = stack.layers;
+    let layers = stack.count;
     let mut most = 0;
     let mut k = 0;
     while k + 1 < layers {
@@ -101,7 +95,7 @@ fn put_strips(stack: Stack, coords: &[i32], strips: &mut [u8], work: &mut [u8])
     ensures { λ _. ⌜ BandsFilled (laid stack) (now (coords .entry))
         (now (strips .entry)) (now (work .entry)) (now (strips .exit)) (now (work .exit)) ⌝ }
 {
-    let layers = stack.layers;
+    let layers = stack.count;
     let mut at = 0;
     let mut k = 0;
     while k + 1 < layers {

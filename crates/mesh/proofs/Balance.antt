@@ -1,20 +1,19 @@
 -- 01: "Every directed side occurs exactly as often as its reverse. It is counts that agree": the closed triangle list, for any
--- strips between any number of traces, and for any two caps whose border is their trace.
+-- strips between any number of traces, and for any two caps whose border is their trace, the lower one turned round.
 --
 -- The idea: give every directed side a weight, any at all, and add the weights up. A list is balanced if its total is the
--- same when every side is turned round; that is plain addition, step by step and triangle by triangle. Along a strip the
+-- same when every side is reversed; that is plain addition, step by step and triangle by triangle. Along a strip the
 -- sides between the two traces cancel in turn, so a band leaves the two traces, the lower one forwards and the upper one
 -- backwards; a cap leaves its trace the other way. The counts of 01 are the weight "is this side". Assumes nothing.
 use mathlib.Core.Path.{_≡_, refl, sym, ap, _∙_, fun-ext}
 use mathlib.Core.Bool.{and-comm}
-use mathlib.Core.List.{List, [], _∷_, _++_}
-use Prim.Native.Nat.{ℕ, zero, suc, _+_, _-_, _≤_}
-use native.Mathlib.Nat.{add-zero}
+use mathlib.Core.List.{List, [], _∷_, _++_, map}
+use Prim.Native.Nat.{ℕ, zero, suc, _+_}
 use native.Mathlib.Omega.{arith}
 use lib.Dec.{eqb}
 use Rattle.ways.specs.Strip.{Step, Strip}
 use Rattle.ways.proofs.Way.{Way, stop, byA, byB, any, strip-way}
-use Rattle.mesh.specs.Triangles.{Tri, bandFrom, roofFrom, floorFrom, side, sides}
+use Rattle.mesh.specs.Triangles.{Tri, turned, bandFrom, side, sides}
 
 -- the weights of a list's directed sides, three a triangle
 unfoldable pub total : (ℕ → ℕ → ℕ) → List Tri → ℕ
@@ -22,8 +21,8 @@ total w [] = 0
 total w (t ∷ ts) = w (t .u) (t .v) + w (t .v) (t .w) + w (t .w) (t .u) + total w ts
 
 -- every side weighs what its reverse did
-abbrev pub turned : (ℕ → ℕ → ℕ) → ℕ → ℕ → ℕ
-turned w x y = w y x
+abbrev pub reversed : (ℕ → ℕ → ℕ) → ℕ → ℕ → ℕ
+reversed w x y = w y x
 
 -- the weights of the first m segments of a trace, forwards
 unfoldable pub rim : (ℕ → ℕ → ℕ) → (ℕ → ℕ) → ℕ → ℕ
@@ -32,23 +31,25 @@ rim w p (suc m) = rim w p m + w (p m) (p (suc m))
 
 -- the border of ts is the trace p with m points, forwards
 pub record Rim (p : ℕ → ℕ) (m : ℕ) (ts : List Tri) : Type 0 where
-  pub rim : (w : ℕ → ℕ → ℕ) → total w ts + rim (turned w) p m ≡ total (turned w) ts + rim w p m
-
--- the border of ts is the trace p with m points, backwards
-pub record RimBack (p : ℕ → ℕ) (m : ℕ) (ts : List Tri) : Type 0 where
-  pub rim : (w : ℕ → ℕ → ℕ) → total w ts + rim w p m ≡ total (turned w) ts + rim (turned w) p m
+  pub rim : (w : ℕ → ℕ → ℕ) → total w ts + rim (reversed w) p m ≡ total (reversed w) ts + rim w p m
 
 pub total-append : (w : ℕ → ℕ → ℕ) (ts us : List Tri) → total w (ts ++ us) ≡ total w ts + total w us
 unfolding total
 total-append w [] us = omega arith
 total-append w (t ∷ ts) us = omega (arith, total-append w ts us)
 
+-- a list turned round has every side the other way
+pub total-turned : (w : ℕ → ℕ → ℕ) (ts : List Tri) → total w (map turned ts) ≡ total (reversed w) ts
+unfolding total
+total-turned w [] = refl
+total-turned w (t ∷ ts) = omega (arith, total-turned w ts)
+
 -- ---- a band
 
 -- from (i,j) on: the segments before it are not used yet, and the side from p i to q j is open
 band-from : {m n i j : ℕ} {s : List Step} → Way any any i j m n s → (p q : ℕ → ℕ) (w : ℕ → ℕ → ℕ)
-    → total w (bandFrom p q i j s) + (rim (turned w) p m + rim w q n) + (rim w p i + rim (turned w) q j) + w (p i) (q j) + w (q n) (p m)
-    ≡ total (turned w) (bandFrom p q i j s) + (rim w p m + rim (turned w) q n) + (rim (turned w) p i + rim w q j) + w (q j) (p i)
+    → total w (bandFrom p q i j s) + (rim (reversed w) p m + rim w q n) + (rim w p i + rim (reversed w) q j) + w (p i) (q j) + w (q n) (p m)
+    ≡ total (reversed w) (bandFrom p q i j s) + (rim w p m + rim (reversed w) q n) + (rim (reversed w) p i + rim w q j) + w (q j) (p i)
     + w (p m) (q n)
 unfolding total bandFrom rim
 band-from stop p q w = omega arith
@@ -56,66 +57,27 @@ band-from (byA e v) p q w = omega (arith, band-from v p q w)
 band-from (byB e v) p q w = omega (arith, band-from v p q w)
 
 pub band-rims : {m n : ℕ} {s : List Step} → Strip m n s → (p q : ℕ → ℕ) → p m ≡ p 0 → q n ≡ q 0 → (w : ℕ → ℕ → ℕ)
-    → total w (bandFrom p q 0 0 s) + (rim (turned w) p m + rim w q n)
-    ≡ total (turned w) (bandFrom p q 0 0 s) + (rim w p m + rim (turned w) q n)
+    → total w (bandFrom p q 0 0 s) + (rim (reversed w) p m + rim w q n)
+    ≡ total (reversed w) (bandFrom p q 0 0 s) + (rim w p m + rim (reversed w) q n)
 unfolding rim
 band-rims r p q ep eq w = let h = rw (ep, eq) at (band-from (strip-way r) p q w) in omega arith
 
--- ---- the two caps
-
-roof-from : (p : ℕ → ℕ) (w : ℕ → ℕ → ℕ) (n k : ℕ)
-    → total w (roofFrom p k n) + rim (turned w) p (k + n) + rim w p k + w (p k) (p 0) + w (p 0) (p (k + n))
-    ≡ total (turned w) (roofFrom p k n) + rim w p (k + n) + rim (turned w) p k + w (p 0) (p k) + w (p (k + n)) (p 0)
-unfolding total roofFrom rim
-roof-from p w zero k = rw add-zero (omega arith)
-roof-from p w (suc n) k =
-    let e : k + suc n ≡ suc k + n = omega arith in
-    rw e (omega (arith, roof-from p w n (suc k)))
-
-pub roof-rim : (p : ℕ → ℕ) (m : ℕ) → 2 ≤ m → p m ≡ p 0 → Rim p m (roofFrom p 1 (m - 2))
-unfolding rim
-roof-rim p m h e = record { rim = λ w. go (m - 2) (omega arith) w }
-  where
-    go : (n : ℕ) → m ≡ suc (suc n) → (w : ℕ → ℕ → ℕ)
-        → total w (roofFrom p 1 n) + rim (turned w) p m ≡ total (turned w) (roofFrom p 1 n) + rim w p m
-    go n d w =
-        let k : 1 + n ≡ suc n = omega arith in
-        let c : p (suc (suc n)) ≡ p 0 = rw d at e in
-        let f = rw k at (roof-from p w n 1) in
-        rw (d, c) (omega arith)
-
--- a floor is a roof turned round
-floor-roof : (p : ℕ → ℕ) (w : ℕ → ℕ → ℕ) (n k : ℕ) → total w (floorFrom p k n) ≡ total (turned w) (roofFrom p k n)
-unfolding total roofFrom floorFrom
-floor-roof p w zero k = refl
-floor-roof p w (suc n) k = omega (arith, floor-roof p w n (suc k))
-
-pub floor-rim : (p : ℕ → ℕ) (m : ℕ) → 2 ≤ m → p m ≡ p 0 → RimBack p m (floorFrom p 1 (m - 2))
-floor-rim p m h e = record {
-  rim = λ w. omega (
-    arith,
-    roof-rim p m h e .rim w,
-    floor-roof p w (m - 2) 1,
-    floor-roof p (turned w) (m - 2) 1,
-  );
-}
-
 -- ---- the counts
 
--- a side is x to y turned round where it is y to x
-side-turned : (x y : ℕ) → turned (side x y) ≡ side y x
+-- a side is x to y reversed where it is y to x
+side-reversed : (x y : ℕ) → reversed (side x y) ≡ side y x
 unfolding side
-side-turned x y = fun-ext λ a. fun-ext λ b. rw (and-comm (eqb x b))
+side-reversed x y = fun-ext λ a. fun-ext λ b. rw (and-comm (eqb x b))
 
 total-sides : (x y : ℕ) (ts : List Tri) → total (side x y) ts ≡ sides x y ts
 unfolding total sides
 total-sides x y [] = refl
 total-sides x y (t ∷ ts) = omega (arith, total-sides x y ts)
 
-pub balanced-sides : (ts : List Tri) → ((w : ℕ → ℕ → ℕ) → total w ts ≡ total (turned w) ts) → (x y : ℕ)
+pub balanced-sides : (ts : List Tri) → ((w : ℕ → ℕ → ℕ) → total w ts ≡ total (reversed w) ts) → (x y : ℕ)
     → sides x y ts ≡ sides y x ts
 balanced-sides ts h x y =
-    sym (total-sides x y ts) ∙ h (side x y) ∙ ap (λ (w : ℕ → ℕ → ℕ). total w ts) (side-turned x y) ∙ total-sides y x ts
+    sym (total-sides x y ts) ∙ h (side x y) ∙ ap (λ (w : ℕ → ℕ → ℕ). total w ts) (side-reversed x y) ∙ total-sides y x ts
 
 -- ---- a stack
 
@@ -133,8 +95,8 @@ pub data Bands : Ring → Ring → List Tri → Type 0 where
 
 -- all bands together leave the lowest trace and the highest one
 pub bands-rims : {p r : Ring} {ts : List Tri} → Bands p r ts → (w : ℕ → ℕ → ℕ)
-    → total w ts + (rim (turned w) (p .at) (p .size) + rim w (r .at) (r .size))
-    ≡ total (turned w) ts + (rim w (p .at) (p .size) + rim (turned w) (r .at) (r .size))
+    → total w ts + (rim (reversed w) (p .at) (p .size) + rim w (r .at) (r .size))
+    ≡ total (reversed w) ts + (rim w (p .at) (p .size) + rim (reversed w) (r .at) (r .size))
 unfolding total
 bands-rims (one p) w = omega arith
 bands-rims (more {p = p} {q = q} g b) w = simp total-append (omega (
@@ -143,7 +105,8 @@ bands-rims (more {p = p} {q = q} g b) w = simp total-append (omega (
   bands-rims b w,
 ))
 
-pub closed-balanced : {p r : Ring} {ts fl ro : List Tri} → Bands p r ts → RimBack (p .at) (p .size) fl → Rim (r .at) (r .size) ro
-    → (x y : ℕ) → sides x y (ts ++ fl ++ ro) ≡ sides y x (ts ++ fl ++ ro)
-closed-balanced {ts = ts} {fl = fl} {ro = ro} b f r = balanced-sides (ts ++ fl ++ ro)
-    (λ w. simp total-append (omega (arith, bands-rims b w, f .rim w, r .rim w)))
+-- the cap below is turned round
+pub closed-balanced : {p r : Ring} {ts low high : List Tri} → Bands p r ts → Rim (p .at) (p .size) low → Rim (r .at) (r .size) high
+    → (x y : ℕ) → sides x y (ts ++ map turned low ++ high) ≡ sides y x (ts ++ map turned low ++ high)
+closed-balanced {ts = ts} {low = low} {high = high} b f r = balanced-sides (ts ++ map turned low ++ high)
+    (λ w. simp (total-append, total-turned) (omega (arith, bands-rims b w, f .rim w, r .rim w)))

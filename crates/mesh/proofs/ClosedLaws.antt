@@ -1,6 +1,7 @@
 -- The closed list, band by band and cap by cap: how many triangles each has, that a stack's layers have small vertex numbers, and
 -- that the writers, one behind the other, write the whole. Assumes nothing.
 use mathlib.Core.Path.{_≡_, refl, sym, ap, ap₂, _∙_, subst}
+use mathlib.Core.Bool.{true, false}
 use mathlib.Core.List.{List, [], _∷_, _++_}
 use Prim.Native.Nat.{ℕ, zero, suc, _+_, _-_, _*_, _≤_, _<_}
 use native.Mathlib.Numerals.{add-one}
@@ -20,11 +21,12 @@ use Rattle.stack.proofs.StackLaws.{accepted-first, accepted-count, band-all, ba
 use Rattle.stack.proofs.Laying.{laid-long, laid-twenty, count-at, count-above}
 use Rattle.mesh.specs.Triangles.{Tri, bandFrom}
 use Rattle.strip.specs.Bytes.{stepsOf}
-use Rattle.mesh.specs.Closed.{ring, bandOf, bandsTo, floorOf, roofOf, closed, triangles}
+use Rattle.mesh.specs.Closed.{ring, bandOf, bandsTo, bottomCap, topCap, closed, triangles}
 use Rattle.mesh.specs.Working.{Fitted}
 use Rattle.mesh.specs.Writing.{Put, Numbered, Drawn}
 use Rattle.mesh.proofs.Parts.{upper, part-end, part-is}
-use Rattle.mesh.proofs.WriteLaws.{Wrote, wrote-none, wrote-more, Fan, floor-fan, roof-fan}
+use Rattle.mesh.proofs.WriteLaws.{Wrote, wrote-none, wrote-more}
+use Rattle.mesh.proofs.Caps.{cap-length}
 
 -- ---- how many
 
@@ -33,18 +35,6 @@ unfolding bandFrom
 from-length p q i j [] = refl
 from-length p q i j (A ∷ s) = ap suc (from-length p q (suc i) j s)
 from-length p q i j (B ∷ s) = ap suc (from-length p q i (suc j) s)
-
-fan-length : {from : ℕ → ℕ → List Tri} {one : ℕ → Tri} → Fan from one → (k n : ℕ) → length (from k n) ≡ n
-fan-length f k zero = ap length (f .none k)
-fan-length f k (suc n) = ap length (f .more k n) ∙ ap suc (fan-length f (suc k) n)
-
-floor-length : (e : Layer) → length (floorOf e) ≡ e .count - 2
-unfolding floorOf
-floor-length e = fan-length (floor-fan e) 1 (e .count - 2)
-
-roof-length : (e : Layer) → length (roofOf e) ≡ e .count - 2
-unfolding roofOf
-roof-length e = fan-length (roof-fan e) 1 (e .count - 2)
 
 module _ {es : List Layer} {l : List ℕ} (r : StripsRight es l) where
   band-length : (k : ℕ) → suc k < length es → length (bandOf es l k) ≡ entry es k .count + entry es (suc k) .count
@@ -65,17 +55,23 @@ unfolding closed triangles
 closed-length {es} {l} r h =
     let n : length es - 1 < length es = omega arith in
     let bands = bandsTo es l (length es - 1) in
-    let f = floorOf (entry es 0) in
-    let g = roofOf (entry es (length es - 1)) in
+    let low = bottomCap (entry es 0) in
+    let high = topCap (entry es (length es - 1)) in
     omega (
       arith,
-      length-append (bands ++ f) g,
-      length-append bands f,
+      length-append (bands ++ low) high,
+      length-append bands low,
       bands-length r (length es - 1) n,
       band-all es (length es - 1) refl,
-      floor-length (entry es 0),
-      roof-length (entry es (length es - 1)),
+      cap-length true (entry es 0),
+      cap-length false (entry es (length es - 1)),
     )
+
+-- as the code counts them: n steps of all bands, and the caps of the bottom layer d and the top layer g
+pub triangles-counted : (st : Stack) {n : ℕ} {d g : Layer} → n ≡ steps (laid st) → d ≡ entry (laid st) 0
+    → g ≡ entry (laid st) (st .count - 1) → n + (d .count - 2) + (g .count - 2) ≡ triangles (laid st)
+unfolding triangles
+triangles-counted st h p q = rw (h, p, q, laid-long st)
 
 -- ---- small numbers
 
@@ -99,7 +95,7 @@ drawn {st} f = record {
 
 -- ---- one band
 
-module _ {st : Stack} {l : List ℕ} (r : Drawn st l) (k : ℕ) {at : ℕ} {d e : Layer} (h : suc k < st .layers)
+module _ {st : Stack} {l : List ℕ} (r : Drawn st l) (k : ℕ) {at : ℕ} {d e : Layer} (h : suc k < st .count)
     (a : at ≡ bandStart (laid st) k) (p : d ≡ entry (laid st) k) (q : e ≡ entry (laid st) (k + 1)) where
   -- the part as the code cuts it
   abbrev cut : List ℕ
@@ -130,7 +126,7 @@ module _ {st : Stack} {l : List ℕ} (r : Drawn st l) (k : ℕ) {at : ℕ} {d e 
 -- ---- all bands
 
 pub record BandsSo (st : Stack) (l : List ℕ) (k at : ℕ) (old new : List ℕ) : Type 0 where
-  pub here : k ≤ st .layers - 1
+  pub here : k ≤ st .count - 1
   pub start : at ≡ bandStart (laid st) k
   pub wrote : Wrote (bandsTo (laid st) l k) (3 * at) old new
 
@@ -140,14 +136,14 @@ bands-begun st l out = record { here = omega arith; start = refl; wrote = wrote-
 
 module _ {st : Stack} {l : List ℕ} (r : Drawn st l) {k at : ℕ} {old out : List ℕ} (s : BandsSo st l k at old out)
     (room : 3 * steps (laid st) ≤ length old) where
-  pub bands-room : suc k < st .layers → 3 * bandStart (laid st) (suc k) ≤ length out
+  pub bands-room : suc k < st .count → 3 * bandStart (laid st) (suc k) ≤ length out
   bands-room h = omega (arith, band-within (laid st) k (omega (arith, laid-long st)), s .wrote .long)
 
-  pub bands-behind : suc k < st .layers → 3 * at ≤ length out
+  pub bands-behind : suc k < st .count → 3 * at ≤ length out
   unfolding bandStart
   bands-behind h = omega (arith, bands-room h, s .start)
 
-  pub bands-more : {next : ℕ} {part : List ℕ} → suc k < st .layers → next ≡ bandStart (laid st) (suc k)
+  pub bands-more : {next : ℕ} {part : List ℕ} → suc k < st .count → next ≡ bandStart (laid st) (suc k)
       → Put (bandOf (laid st) l k) (behind (3 * at) out) part → length part ≡ length (behind (3 * at) out)
       → BandsSo st l (k + 1) next old (back (3 * at) out part)
   unfolding bandsTo bandStart
@@ -158,9 +154,9 @@ module _ {st : Stack} {l : List ℕ} (r : Drawn st l) {k at : ℕ} {old out : Li
         (omega (arith, s .start, band-length (r .strips) k (omega (arith, laid-long st))));
   })
 
-  pub bands-done : st .layers ≤ k + 1 → Put (bandsTo (laid st) l (st .layers - 1)) old out
+  pub bands-done : st .count ≤ k + 1 → Put (bandsTo (laid st) l (st .count - 1)) old out
   bands-done h =
-      let e : k ≡ st .layers - 1 = omega (arith, s .here) in
+      let e : k ≡ st .count - 1 = omega (arith, s .here) in
       subst (λ (n : ℕ). Put (bandsTo (laid st) l n) old out) e (s .wrote .filled)
 
 -- ---- the whole list
@@ -171,56 +167,48 @@ pub record Capped (st : Stack) (l : List ℕ) (n : ℕ) (old : List ℕ) (d g : 
   pub taken : n ≡ steps (laid st)
   pub room : 3 * triangles (laid st) ≤ length old
   pub bottom : d ≡ entry (laid st) 0
-  pub top : g ≡ entry (laid st) (st .layers - 1)
+  pub top : g ≡ entry (laid st) (st .count - 1)
 
 -- all bands
 abbrev pub bandsOf : Stack → List ℕ → List Tri
-bandsOf st l = bandsTo (laid st) l (st .layers - 1)
+bandsOf st l = bandsTo (laid st) l (st .count - 1)
 
 module _ {st : Stack} {l : List ℕ} {n : ℕ} {old : List ℕ} {d g : Layer} (a : Capped st l n old d g) where
-  top-layer : g ≡ entry (laid st) (length (laid st) - 1)
-  top-layer = a .top ∙ ap (λ (n : ℕ). entry (laid st) (n - 1)) (sym (laid-long st))
-
   pub whole-room : 3 * n + 3 * (d .count - 2) + 3 * (g .count - 2) ≤ length old
-  unfolding triangles
-  whole-room =
-      let all : 3 * (steps (laid st) + (d .count - 2) + (g .count - 2)) ≤ length old = rw (a .bottom, top-layer) (a .room) in
-      omega (arith, a .taken)
+  whole-room = omega (arith, a .room, triangles-counted st (a .taken) (a .bottom) (a .top))
 
   pub bottom-drawn : Numbered d × (3 ≤ d .count)
   bottom-drawn = rw (a .bottom) (a .drawn .numbered 0 (a .drawn .some), a .drawn .three 0 (a .drawn .some))
 
   pub top-drawn : Numbered g
-  top-drawn = rw (a .top) (a .drawn .numbered (st .layers - 1) (omega (arith, a .drawn .some)))
+  top-drawn = rw (a .top) (a .drawn .numbered (st .count - 1) (omega (arith, a .drawn .some)))
 
   module _ {out : List ℕ} (f : Put (bandsOf st l) old out) (e : length out ≡ length old) where
     bands-wrote : Wrote (bandsOf st l) (3 * n) old out
     bands-wrote = record {
       many = ap (λ (n : ℕ). 3 * n)
-          (bands-length (a .drawn .strips) (st .layers - 1) (omega (arith, laid-long st, a .drawn .some))
-          ∙ band-all (laid st) (st .layers - 1) (omega (arith, laid-long st)) ∙ sym (a .taken));
+          (bands-length (a .drawn .strips) (st .count - 1) (omega (arith, laid-long st, a .drawn .some))
+          ∙ band-all (laid st) (st .count - 1) (omega (arith, laid-long st)) ∙ sym (a .taken));
       filled = f;
       long = e;
     }
 
-    pub floor-room : 3 * n + 3 * (d .count - 2) + 3 * (g .count - 2) ≤ length out
-    floor-room = omega (arith, whole-room)
+    pub bottom-room : 3 * n + 3 * (d .count - 2) + 3 * (g .count - 2) ≤ length out
+    bottom-room = omega (arith, whole-room)
 
-    module _ {part : List ℕ} (ff : Put (floorOf d) (behind (3 * n) out) part) (fe : length part ≡ length (behind (3 * n) out)) where
-      floor-wrote : Wrote (bandsOf st l ++ floorOf d) (3 * n + 3 * (d .count - 2)) old (back (3 * n) out part)
-      floor-wrote = wrote-more (3 * n + 3 * (d .count - 2)) bands-wrote ff fe (omega (arith, floor-length d))
+    module _ {part : List ℕ} (bf : Put (bottomCap d) (behind (3 * n) out) part) (be : length part ≡ length (behind (3 * n) out)) where
+      bottom-wrote : Wrote (bandsOf st l ++ bottomCap d) (3 * n + 3 * (d .count - 2)) old (back (3 * n) out part)
+      bottom-wrote = wrote-more (3 * n + 3 * (d .count - 2)) bands-wrote bf be (omega (arith, cap-length true d))
 
-      pub roof-room : 3 * n + 3 * (d .count - 2) + 3 * (g .count - 2) ≤ length (back (3 * n) out part)
-      roof-room = omega (arith, whole-room, floor-wrote .long)
+      pub top-room : 3 * n + 3 * (d .count - 2) + 3 * (g .count - 2) ≤ length (back (3 * n) out part)
+      top-room = omega (arith, whole-room, bottom-wrote .long)
 
-      pub whole-filled : {last : List ℕ} → Put (roofOf g) (behind (3 * n + 3 * (d .count - 2)) (back (3 * n) out part)) last
+      pub whole-filled : {last : List ℕ} → Put (topCap g) (behind (3 * n + 3 * (d .count - 2)) (back (3 * n) out part)) last
           → length last ≡ length (behind (3 * n + 3 * (d .count - 2)) (back (3 * n) out part))
           → Put (closed (laid st) l) old (back (3 * n + 3 * (d .count - 2)) (back (3 * n) out part) last)
       unfolding closed
-      whole-filled {last} rf re =
+      whole-filled {last} tf te =
           let m = 3 * n + 3 * (d .count - 2) in
-          let list : bandsOf st l ++ floorOf d ++ roofOf g ≡ closed (laid st) l =
-          ap₂ (λ (k : ℕ) (t : List Tri). bandsTo (laid st) l (k - 1) ++ t ++ roofOf g) (sym (laid-long st)) (ap floorOf (a .bottom))
-          ∙ ap (λ (t : Layer). bandsTo (laid st) l (length (laid st) - 1) ++ floorOf (entry (laid st) 0) ++ roofOf t) top-layer in
+          let list : bandsOf st l ++ bottomCap d ++ topCap g ≡ closed (laid st) l = rw (laid-long st, a .bottom, a .top) in
           subst (λ (ts : List Tri). Put ts old (back m (back (3 * n) out part) last)) list
-          (wrote-more (m + 3 * length (roofOf g)) floor-wrote rf re refl .filled)
+          (wrote-more (m + 3 * length (topCap g)) bottom-wrote tf te refl .filled)

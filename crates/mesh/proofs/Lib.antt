@@ -3,7 +3,9 @@ pub mod Answers
 pub mod Balance
 pub mod Volumes
 mod Cases
+mod Corners
 mod Rings
+mod Caps
 mod Parts
 mod Stacked
 mod SixLaws

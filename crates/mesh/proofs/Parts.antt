@@ -25,7 +25,7 @@ module _ (st : Stack) (k : ℕ) {at : ℕ} {d e : Layer} (a : at ≡ bandStart (
   unfolding bandStart
   part-end = omega (arith, count-at (laid st) k p, count-above (laid st) k q)
 
-  pub part-inside : (l : List ℕ) → suc k < st .layers → length l ≡ steps (laid st) → at + (d .count + e .count) ≤ length l
+  pub part-inside : (l : List ℕ) → suc k < st .count → length l ≡ steps (laid st) → at + (d .count + e .count) ≤ length l
   part-inside l h s = omega (arith, count-at (laid st) k p, count-above (laid st) k q, laid-fits st k h)
 
   pub part-is : (l : List ℕ) → take (at + (d .count + e .count) - at) (drop at l) ≡ bandPart (laid st) l k

@@ -2,7 +2,7 @@
 -- and the machine's sums and products of them are the band rule's, being far inside an i64. Assumes nothing.
 use mathlib.Core.Path.{_≡_, refl, sym, ap, ap₂, _∙_, subst}
 use mathlib.Core.List.{List}
-use Prim.Native.Nat.{ℕ, suc, _+_, _-_, _*_, _≤_, _<_}
+use Prim.Native.Nat.{ℕ, suc, _+_, _-_, _≤_, _<_}
 use native.Mathlib.Numerals.{add-one}
 use native.Mathlib.Omega.{arith}
 use lib.IntN.{ℤ, pos, _+ℤ_, _-ℤ_, _*ℤ_}
@@ -19,7 +19,7 @@ use Rattle.fault.specs.declared.Fault.{Fault}
 use Rattle.fault.specs.declared.Refusal.{Refusal}
 use Rattle.trace.specs.declared.Judgement.{Judgement}
 use Rattle.trace.specs.declared.Judgement.the-variants.{Fit, Unfit}
-use Rattle.trace.specs.Points.{count, twiceArea}
+use Rattle.trace.specs.Points.{twiceArea}
 use Rattle.trace.specs.Faults.{Accepted, Given, unfit, fit}
 use Rattle.trace.proofs.PointLaws.{area-within}
 use Rattle.trace.proofs.Exact.{judgement-unique}
@@ -100,20 +100,20 @@ module _ {a b : List ℤ} {l : List ℕ} (j : Joined a b l) where
 -- ---- a band of a stack
 
 module _ {st : Stack} {c : List ℤ} {l : List ℕ} (f : Fitted st c l) where
-  pub twenty : st .layers ≤ 20
+  pub twenty : st .count ≤ 20
   twenty = laid-twenty st (f .stack .layers)
 
   -- all steps up to the end of band k
-  pub ends-within : (k : ℕ) → suc k < st .layers → bandStart (laid st) (suc k) ≤ 9500
+  pub ends-within : (k : ℕ) → suc k < st .count → bandStart (laid st) (suc k) ≤ 9500
   ends-within k h = omega (arith, band-within (laid st) k (omega (arith, laid-long st)), accepted-steps (f .stack))
 
   -- a layer's plane, read back
-  plane-held : {k : ℕ} {d : Layer} → k < st .layers → d ≡ entry (laid st) k
+  plane-held : {k : ℕ} {d : Layer} → k < st .count → d ≡ entry (laid st) k
       → Holds 100000 100000 (toZ w32 (ofZ w32 (d .plane))) (entry (laid st) k .plane)
   plane-held {k} h p =
       held w32 (from (ap (λ (e : Layer). e .plane) p) (accepted-plane (f .stack) k (omega (arith, laid-long st)))) tt
 
-  module _ {k : ℕ} {d e : Layer} (h : suc k < st .layers) (p : d ≡ entry (laid st) k) (q : e ≡ entry (laid st) (k + 1)) where
+  module _ {k : ℕ} {d e : Layer} (h : suc k < st .count) (p : d ≡ entry (laid st) k) (q : e ≡ entry (laid st) (k + 1)) where
     pub rise-held : Holds 200000 200000 (toZ w32 (ofZ w32 (e .plane)) -ℤ toZ w32 (ofZ w32 (d .plane)))
         (entry (laid st) (suc k) .plane -ℤ entry (laid st) k .plane)
     rise-held = minus (plane-held h (upper st k q)) (plane-held (omega arith) p)
@@ -148,12 +148,12 @@ module _ {st : Stack} {c : List ℤ} {l : List ℕ} (f : Fitted st c l) where
 -- ---- the loop over the bands
 
 pub record SixSo (st : Stack) (c : List ℤ) (l : List ℕ) (k at six : ℕ) : Type 0 where
-  pub here : k ≤ st .layers - 1
+  pub here : k ≤ st .count - 1
   pub start : at ≡ bandStart (laid st) k
   pub sum : toZ w64 six ≡ sum k (bandRule (laid st) c l)
 
 module _ {st : Stack} {c : List ℤ} {l : List ℕ} (f : Fitted st c l) where
-  rule-bound : (k : ℕ) → suc k < st .layers → Within 8000000000000000000 (bandRule (laid st) c l k)
+  rule-bound : (k : ℕ) → suc k < st .count → Within 8000000000000000000 (bandRule (laid st) c l k)
   unfolding sum
   rule-bound k h =
       let s : suc k < length (laid st) = omega (arith, laid-long st) in
@@ -163,16 +163,16 @@ module _ {st : Stack} {c : List ℤ} {l : List ℕ} (f : Fitted st c l) where
       last : (x y : ℤ) → (x +ℤ y) -ℤ x ≡ y
       last x y = simp zsum (simp znat (omega arith))
 
-  pub rule-returned : {v : ℤ} (k : ℕ) → suc k < st .layers → v ≡ bandRule (laid st) c l k → toZ w64 (ofZ w64 v) ≡ bandRule (laid st) c l k
+  pub rule-returned : {v : ℤ} (k : ℕ) → suc k < st .count → v ≡ bandRule (laid st) c l k → toZ w64 (ofZ w64 v) ≡ bandRule (laid st) c l k
   rule-returned k h e = held w64 (from e (rule-bound k h)) tt .is
 
-  pub sum-held : {k at six : ℕ} {v : ℤ} → SixSo st c l k at six → suc k < st .layers → v ≡ bandRule (laid st) c l k
+  pub sum-held : {k at six : ℕ} {v : ℤ} → SixSo st c l k at six → suc k < st .count → v ≡ bandRule (laid st) c l k
       → Holds 4000000000000000000 4000000000000000000 (toZ w64 six +ℤ toZ w64 (ofZ w64 v)) (sum (suc k) (bandRule (laid st) c l))
   unfolding sum
   sum-held {k} s h e =
       from (ap₂ _+ℤ_ (s .sum) (rule-returned k h e)) (sums-within (f .stack) (f .strips) (suc k) (omega (arith, laid-long st)))
 
-  pub six-more : {k at six next : ℕ} {v : ℤ} → SixSo st c l k at six → suc k < st .layers → v ≡ bandRule (laid st) c l k
+  pub six-more : {k at six next : ℕ} {v : ℤ} → SixSo st c l k at six → suc k < st .count → v ≡ bandRule (laid st) c l k
       → next ≡ bandStart (laid st) (suc k) → SixSo st c l (k + 1) next (ofZ w64 (toZ w64 six +ℤ toZ w64 (ofZ w64 v)))
   six-more {k} {at} {six} {next} {v} s h e n = rw (add-one k) (record {
     here = omega arith;
@@ -180,7 +180,7 @@ module _ {st : Stack} {c : List ℤ} {l : List ℕ} (f : Fitted st c l) where
     sum = held w64 (sum-held s h e) tt .is;
   })
 
-  pub six-done : {k at six : ℕ} → k ≡ st .layers - 1 → SixSo st c l k at six → toZ w64 six ≡ sixOf (laid st) c l
+  pub six-done : {k at six : ℕ} → k ≡ st .count - 1 → SixSo st c l k at six → toZ w64 six ≡ sixOf (laid st) c l
   unfolding sixOf
   six-done {k} e s = s .sum ∙ ap (λ (n : ℕ). sum n (bandRule (laid st) c l)) (omega (arith, laid-long st))
 

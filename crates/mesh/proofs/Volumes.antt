@@ -1,5 +1,5 @@
 -- 01: six times the volume of the closed triangle list "equals the sum of the band rule", for any strips between any number of
--- traces, and for any two caps that lie in a plane and whose border is their trace.
+-- traces, and for any two caps that lie in a plane and whose border is their trace, the lower one turned round.
 --
 -- The idea: a determinant is a sum of heights times crosses x·y' - x'·y. At one height only the crosses of the sides are left,
 -- so a cap's volume goes by the weights of `Balance`, the cross parted into two natural numbers. In a band, the triangle of a
@@ -8,7 +8,7 @@
 -- the worth of each step A and grows by that of each step B, and F(m,n) is F(0,0). So the amount is half the value. Assumes
 -- nothing.
 use mathlib.Core.Path.{_≡_, refl, sym, ap, ap₂, _∙_}
-use mathlib.Core.List.{List, [], _∷_, _++_, append-assoc, append-nil}
+use mathlib.Core.List.{List, [], _∷_, _++_, map, append-assoc, append-nil}
 use Prim.Native.Nat.{ℕ, zero, suc, _+_}
 use native.Mathlib.Omega.{arith}
 use lib.IntN.{ℤ, pos, negℤ, _+ℤ_, _-ℤ_, _*ℤ_, +ℤ-assoc, +ℤ-idl, +ℤ-idr, *ℤ-zero}
@@ -18,9 +18,10 @@ use Rattle.whole.proofs.Order.{+ℤ-cancel}
 use Rattle.ways.specs.Strip.{Step, A, B, Strip}
 use Rattle.ways.specs.Value.{Worths, value, valueFrom}
 use Rattle.ways.proofs.Way.{Way, stop, byA, byB, any, strip-way}
-use Rattle.mesh.specs.Triangles.{Tri, bandFrom, roofFrom, floorFrom}
+use Rattle.mesh.specs.Triangles.{Tri, turned, bandFrom}
 use Rattle.mesh.specs.Volume.{six, sixAll, areaOn, worthsOn}
-use Rattle.mesh.proofs.Balance.{total, turned, rim, Rim, RimBack, Ring, Bands, one, more}
+use Rattle.mesh.proofs.Balance.{total, reversed, rim, Rim, total-turned, Ring, Bands, one, more}
+use Rattle.mesh.proofs.Corners.{Corners, empty, all, corners-turned}
 
 -- ---- the determinant
 
@@ -72,11 +73,11 @@ module _ (X Y : ℕ → ℤ) where
       law : (c : ℤ) → c ≡ pos (up c) -ℤ pos (up (negℤ c))
       law c = simp zsum (simp znat (omega arith))
 
-  area-parts : (p : ℕ → ℕ) (m : ℕ) → areaOn X Y p m ≡ pos (rim (weight X Y) p m) -ℤ pos (rim (turned (weight X Y)) p m)
+  area-parts : (p : ℕ → ℕ) (m : ℕ) → areaOn X Y p m ≡ pos (rim (weight X Y) p m) -ℤ pos (rim (reversed (weight X Y)) p m)
   unfolding areaOn sum rim cross
   area-parts p zero = refl
   area-parts p (suc m) = ap₂ _+ℤ_ (area-parts p m) (cross-parts (p m) (p (suc m)))
-      ∙ law (rim (weight X Y) p m) (rim (turned (weight X Y)) p m) (weight X Y (p m) (p (suc m))) (weight X Y (p (suc m)) (p m))
+      ∙ law (rim (weight X Y) p m) (rim (reversed (weight X Y)) p m) (weight X Y (p m) (p (suc m))) (weight X Y (p (suc m)) (p m))
     where
       law : (a b c d : ℕ) → (pos a -ℤ pos b) +ℤ (pos c -ℤ pos d) ≡ pos (a + c) -ℤ pos (b + d)
       law a b c d = simp zsum (simp znat (omega arith))
@@ -89,32 +90,21 @@ module _ (X Y : ℕ → ℤ) where
 -- ---- caps
 
 -- every vertex of the list is at the height z
-pub data Level (Z : ℕ → ℤ) (z : ℤ) : List Tri → Type 0 where
-  empty : Level Z z []
-  level : {t : Tri} {ts : List Tri} → Z (t .u) ≡ z → Z (t .v) ≡ z → Z (t .w) ≡ z → Level Z z ts → Level Z z (t ∷ ts)
-
-pub roof-level : {Z : ℕ → ℤ} {z : ℤ} (p : ℕ → ℕ) → ((i : ℕ) → Z (p i) ≡ z) → (k n : ℕ) → Level Z z (roofFrom p k n)
-unfolding roofFrom
-roof-level p h k zero = empty
-roof-level p h k (suc n) = level (h 0) (h k) (h (suc k)) (roof-level p h (suc k) n)
-
-pub floor-level : {Z : ℕ → ℤ} {z : ℤ} (p : ℕ → ℕ) → ((i : ℕ) → Z (p i) ≡ z) → (k n : ℕ) → Level Z z (floorFrom p k n)
-unfolding floorFrom
-floor-level p h k zero = empty
-floor-level p h k (suc n) = level (h 0) (h (suc k)) (h k) (floor-level p h (suc k) n)
+abbrev pub Level : (ℕ → ℤ) → ℤ → List Tri → Type 0
+Level Z z ts = Corners (λ v. Z v ≡ z) ts
 
 module _ (X Y : ℕ → ℤ) {Z : ℕ → ℤ} {z : ℤ} where
   flat-parts : {ts : List Tri} → Level Z z ts
-      → sixAll X Y Z ts ≡ z *ℤ (pos (total (weight X Y) ts) -ℤ pos (total (turned (weight X Y)) ts))
+      → sixAll X Y Z ts ≡ z *ℤ (pos (total (weight X Y) ts) -ℤ pos (total (reversed (weight X Y)) ts))
   unfolding sixAll total
   flat-parts empty = sym (*ℤ-zero z)
-  flat-parts (level {t = t} {ts = ts} hu hv hw l) =
+  flat-parts (all {t = t} {ts = ts} hu hv hw l) =
       ap₂ _+ℤ_
       (six-heights X Y Z t ∙ ap₂ _+ℤ_
       (ap₂ _+ℤ_ (ap₂ _*ℤ_ hu (cross-parts X Y (t .v) (t .w))) (ap₂ _*ℤ_ hv (cross-parts X Y (t .w) (t .u))))
       (ap₂ _*ℤ_ hw (cross-parts X Y (t .u) (t .v))))
       (flat-parts l)
-      ∙ law z (weight X Y) (t .u) (t .v) (t .w) (total (weight X Y) ts) (total (turned (weight X Y)) ts)
+      ∙ law z (weight X Y) (t .u) (t .v) (t .w) (total (weight X Y) ts) (total (reversed (weight X Y)) ts)
     where
       law : (z : ℤ) (f : ℕ → ℕ → ℕ) (u v w d e : ℕ)
           → z *ℤ (pos (f v w) -ℤ pos (f w v)) +ℤ z *ℤ (pos (f w u) -ℤ pos (f u w)) +ℤ z *ℤ (pos (f u v) -ℤ pos (f v u))
@@ -124,24 +114,22 @@ module _ (X Y : ℕ → ℤ) {Z : ℕ → ℤ} {z : ℤ} where
 
   pub cap-six : {p : ℕ → ℕ} {m : ℕ} {ts : List Tri} → Rim p m ts → Level Z z ts → sixAll X Y Z ts ≡ z *ℤ areaOn X Y p m
   cap-six {p} {m} {ts} r l = flat-parts l ∙ ap (λ (a : ℤ). z *ℤ a)
-      (law (total (weight X Y) ts) (total (turned (weight X Y)) ts) (rim (weight X Y) p m) (rim (turned (weight X Y)) p m)
+      (law (total (weight X Y) ts) (total (reversed (weight X Y)) ts) (rim (weight X Y) p m) (rim (reversed (weight X Y)) p m)
       (r .rim (weight X Y)) ∙ sym (area-parts X Y p m))
     where
       law : (a b c d : ℕ) → a + d ≡ b + c → pos a -ℤ pos b ≡ pos c -ℤ pos d
       law a b c d = simp zsum (simp znat (omega arith))
 
-  pub cap-six-back : {p : ℕ → ℕ} {m : ℕ} {ts : List Tri} → RimBack p m ts → Level Z z ts
-      → sixAll X Y Z ts ≡ negℤ (z *ℤ areaOn X Y p m)
-  cap-six-back {p} {m} {ts} r l = flat-parts l ∙ ap (λ (a : ℤ). z *ℤ a)
-      (law (total (weight X Y) ts) (total (turned (weight X Y)) ts) (rim (weight X Y) p m) (rim (turned (weight X Y)) p m)
-      (r .rim (weight X Y)) ∙ ap negℤ (sym (area-parts X Y p m)))
-      ∙ times-neg z (areaOn X Y p m)
+  -- and turned round
+  pub cap-six-turned : {p : ℕ → ℕ} {m : ℕ} {ts : List Tri} → Rim p m ts → Level Z z ts
+      → sixAll X Y Z (map turned ts) ≡ negℤ (z *ℤ areaOn X Y p m)
+  cap-six-turned {p} {m} {ts} r l =
+      flat-parts (corners-turned l)
+      ∙ rw (total-turned (weight X Y) ts, total-turned (reversed (weight X Y)) ts)
+      (law z (total (weight X Y) ts) (total (reversed (weight X Y)) ts) ∙ ap negℤ (sym (flat-parts l) ∙ cap-six r l))
     where
-      law : (a b c d : ℕ) → a + c ≡ b + d → pos a -ℤ pos b ≡ negℤ (pos c -ℤ pos d)
-      law a b c d = simp zsum (simp znat (omega arith))
-
-      times-neg : (a b : ℤ) → a *ℤ negℤ b ≡ negℤ (a *ℤ b)
-      times-neg a b = simp zsum (simp znat (omega arith))
+      law : (z : ℤ) (a b : ℕ) → z *ℤ (pos b -ℤ pos a) ≡ negℤ (z *ℤ (pos a -ℤ pos b))
+      law z a b = simp zsum (simp znat (omega arith))
 
 -- ---- both kinds of step add up to the same amount
 
@@ -342,12 +330,13 @@ bands-six X Y Z (under {p = p} {q = q} {r = r} {z₀ = z₀} {z₁ = z₁} {z₂
     law : (x y a b c : ℤ) → (x +ℤ a -ℤ b) +ℤ (y +ℤ b -ℤ c) ≡ (x +ℤ y) +ℤ a -ℤ c
     law x y a b c = simp zsum (simp znat (omega arith))
 
-pub closed-six : (X Y Z : ℕ → ℤ) {p r : Ring} {z₀ z₁ sum : ℤ} {ts fl ro : List Tri} → BandSum X Y Z p z₀ r z₁ ts sum
-    → RimBack (p .at) (p .size) fl → Level Z z₀ fl → Rim (r .at) (r .size) ro → Level Z z₁ ro
-    → sixAll X Y Z (ts ++ fl ++ ro) ≡ sum
-closed-six X Y Z {p} {r} {z₀} {z₁} {sum} {ts} {fl} {ro} u f lf g lg =
-    sixAll-append X Y Z (ts ++ fl) ro
-    ∙ ap₂ _+ℤ_ (sixAll-append X Y Z ts fl ∙ ap₂ _+ℤ_ (bands-six X Y Z u) (cap-six-back X Y f lf)) (cap-six X Y g lg)
+-- the cap below is turned round
+pub closed-six : (X Y Z : ℕ → ℤ) {p r : Ring} {z₀ z₁ sum : ℤ} {ts low high : List Tri} → BandSum X Y Z p z₀ r z₁ ts sum
+    → Rim (p .at) (p .size) low → Level Z z₀ low → Rim (r .at) (r .size) high → Level Z z₁ high
+    → sixAll X Y Z (ts ++ map turned low ++ high) ≡ sum
+closed-six X Y Z {p} {r} {z₀} {z₁} {sum} {ts} {low} {high} u f lf g lg =
+    sixAll-append X Y Z (ts ++ map turned low) high
+    ∙ ap₂ _+ℤ_ (sixAll-append X Y Z ts (map turned low) ∙ ap₂ _+ℤ_ (bands-six X Y Z u) (cap-six-turned X Y f lf)) (cap-six X Y g lg)
     ∙ law sum (z₀ *ℤ areaOn X Y (p .at) (p .size)) (z₁ *ℤ areaOn X Y (r .at) (r .size))
   where
     law : (x a b : ℤ) → (x +ℤ a -ℤ b) +ℤ negℤ a +ℤ b ≡ x

@@ -15,11 +15,11 @@ use Rattle.ways.specs.Strip.{Step, A, B, stepsA, stepsB, Strip}
 use Rattle.ways.proofs.Way.{Ends}
 use Rattle.stack.specs.declared.Layer.{Layer}
 use Rattle.mesh.specs.declared.writers.Pair.{Pair}
-use Rattle.mesh.specs.Triangles.{Tri, bandFrom, floorFrom, roofFrom}
+use Rattle.mesh.specs.Triangles.{Tri, tri, stepTri, bandFrom}
 use Rattle.strip.specs.Bytes.{stepOf, stepsOf}
 use Rattle.strip.proofs.BytesLaws.{byte-a, byte-b}
 use Rattle.mesh.specs.Closed.{ring, numbers}
-use Rattle.mesh.specs.Writing.{Put, tri, Numbered, stepTri, floorTri, roofTri, StepReady, Stepped}
+use Rattle.mesh.specs.Writing.{Put, Numbered, StepReady, Stepped}
 
 -- ---- the numbers of triangles
 
@@ -113,10 +113,10 @@ module _ {d e : Layer} {p : Pair} {b : ℕ} {out : List ℕ} (s : StepReady d e 
 
 -- by the step that the byte says
 at-step : {d e : Layer} {p r : Pair} {b : ℕ} {old new : List ℕ} (x : Step) → stepOf b ≡ x
-    → Put (stepTri d e (p .i) (p .j) x ∷ []) old new → r .i ≡ p .i + stepsA (x ∷ []) → r .j ≡ p .j + stepsB (x ∷ [])
+    → Put (stepTri (ring d) (ring e) (p .i) (p .j) x ∷ []) old new → r .i ≡ p .i + stepsA (x ∷ []) → r .j ≡ p .j + stepsB (x ∷ [])
     → Stepped d e p b old new r
 at-step {d} {e} {p} {r} {b} {old} {new} x q t ei ej = record {
-  triangle = subst (λ (x : Step). Put (stepTri d e (p .i) (p .j) x ∷ []) old new) (sym q) t;
+  triangle = subst (λ (x : Step). Put (stepTri (ring d) (ring e) (p .i) (p .j) x ∷ []) old new) (sym q) t;
   i = ei ∙ ap (λ (x : Step). p .i + stepsA (x ∷ [])) (sym q);
   j = ej ∙ ap (λ (x : Step). p .j + stepsB (x ∷ [])) (sym q);
 }
@@ -126,19 +126,19 @@ module _ {d e : Layer} {p : Pair} {b u v w : ℕ} {old new : List ℕ} (eu : u �
   pub step-a : b ≡ 0 → v ≡ ring d (p .i + 1) → Stepped d e p b old new (record { i = p .i + 1; j = p .j })
   unfolding stepsA stepsB
   step-a z ev =
-      let t : tri u v w ≡ stepTri d e (p .i) (p .j) A = corners eu (ev ∙ ap (ring d) (add-one (p .i))) ew in
+      let t : tri u v w ≡ stepTri (ring d) (ring e) (p .i) (p .j) A = corners eu (ev ∙ ap (ring d) (add-one (p .i))) ew in
       at-step A (byte-a b z) (subst (λ (t : Tri). Put (t ∷ []) old new) t f) (omega arith) (omega arith)
 
   pub step-b : (b ≡ 0 → ⊥) → v ≡ ring e (p .j + 1) → Stepped d e p b old new (record { i = p .i; j = p .j + 1 })
   unfolding stepsA stepsB
   step-b z ev =
-      let t : tri u v w ≡ stepTri d e (p .i) (p .j) B = corners eu (ev ∙ ap (ring e) (add-one (p .j))) ew in
+      let t : tri u v w ≡ stepTri (ring d) (ring e) (p .i) (p .j) B = corners eu (ev ∙ ap (ring e) (add-one (p .j))) ew in
       at-step B (byte-b b z) (subst (λ (t : Tri). Put (t ∷ []) old new) t f) (omega arith) (omega arith)
 
 -- ---- a band
 
 band-step : (i j : ℕ) (d e : Layer) (x : Step) (s : List Step)
-    → bandFrom (ring d) (ring e) i j (x ∷ s) ≡ stepTri d e i j x ∷ bandFrom (ring d) (ring e) (i + stepsA (x ∷ [])) (j + stepsB (x ∷ [])) s
+    → bandFrom (ring d) (ring e) i j (x ∷ s) ≡ stepTri (ring d) (ring e) i j x ∷ bandFrom (ring d) (ring e) (i + stepsA (x ∷ [])) (j + stepsB (x ∷ [])) s
 unfolding bandFrom stepsA stepsB
 band-step i j d e A s = rw (add-one i, add-zero j)
 band-step i j d e B s = rw (add-zero i, add-one j)
@@ -167,7 +167,7 @@ module _ {d e : Layer} {l : List ℕ} {k : ℕ} {p : Pair} {old out : List ℕ} 
   rest = stepsOf (drop (suc k) l)
 
   abbrev one : Tri
-  one = stepTri d e (p .i) (p .j) (stepOf (getD l k 0))
+  one = stepTri (ring d) (ring e) (p .i) (p .j) (stepOf (getD l k 0))
 
   next : drop k l ≡ getD l k 0 ∷ drop (suc k) l
   next = drop-cons l k 0 h
@@ -223,65 +223,3 @@ band-done {d} {e} {l} {k} {p} {old} {out} s h =
     ∙ ap (λ (m : List ℕ). s .done ++ bandFrom (ring d) (ring e) (p .i) (p .j) (stepsOf m)) (ap (λ (n : ℕ). drop n l) h ∙ drop-length l)
     ∙ append-nil (s .done)))
     (s .wrote .filled)
-
--- ---- a cap
-
--- n triangles from k on, one by one
-pub record Fan (from : ℕ → ℕ → List Tri) (one : ℕ → Tri) : Type 0 where
-  pub none : (k : ℕ) → from k 0 ≡ []
-  pub more : (k n : ℕ) → from k (suc n) ≡ one k ∷ from (suc k) n
-
-pub floor-fan : (e : Layer) → Fan (floorFrom (ring e)) (floorTri e)
-unfolding floorFrom
-floor-fan e = record { none = λ _. refl; more = λ _ _. refl }
-
-pub roof-fan : (e : Layer) → Fan (roofFrom (ring e)) (roofTri e)
-unfolding roofFrom
-roof-fan e = record { none = λ _. refl; more = λ _ _. refl }
-
--- k triangles of a cap with m points are written
-pub record FanSo (from : ℕ → ℕ → List Tri) (m k : ℕ) (old new : List ℕ) : Type 0 where
-  pub here : k ≤ m - 2
-  pub done : List Tri
-  pub parts : from 1 (m - 2) ≡ done ++ from (suc k) (m - 2 - k)
-  pub wrote : Wrote done (3 * k) old new
-
-pub fan-begun : (from : ℕ → ℕ → List Tri) (m : ℕ) (out : List ℕ) → FanSo from m 0 out out
-fan-begun from m out = record { here = omega arith; done = []; parts = ap (from 1) (omega arith); wrote = wrote-none out }
-
-module _ {from : ℕ → ℕ → List Tri} {one : ℕ → Tri} (f : Fan from one) {m k : ℕ} {old out : List ℕ} (s : FanSo from m k old out) where
-  pub fan-room : suc (suc k) < m → 3 * (m - 2) ≤ length old → 3 * k + 3 ≤ length out
-  fan-room h r = omega (arith, s .wrote .long)
-
-  pub fan-more : {part : List ℕ} → suc (suc k) < m → Put (one (suc k) ∷ []) (behind (3 * k) out) part
-      → length part ≡ length (behind (3 * k) out) → FanSo from m (k + 1) old (back (3 * k) out part)
-  fan-more h t g =
-      let n : m - 2 - k ≡ suc (m - 2 - suc k) = omega arith in
-      rw (add-one k) (record {
-        here = omega arith;
-        done = s .done ++ (one (suc k) ∷ []);
-        parts =
-            s .parts ∙ ap (λ (t : List Tri). s .done ++ t) (ap (from (suc k)) n ∙ f .more (suc k) (m - 2 - suc k))
-            ∙ sym (append-assoc (s .done) (one (suc k) ∷ []) (from (suc (suc k)) (m - 2 - suc k)));
-        wrote = wrote-more (3 * suc k) (s .wrote) t g (omega arith);
-      })
-
-  pub fan-done : m ≤ suc (suc k) → Put (from 1 (m - 2)) old out
-  fan-done h =
-      let n : m - 2 - k ≡ 0 = omega (arith, s .here) in
-      subst (λ (t : List Tri). Put t old out)
-      (sym (s .parts ∙ ap (λ (t : List Tri). s .done ++ t) (ap (from (suc k)) n ∙ f .none (suc k)) ∙ append-nil (s .done)))
-      (s .wrote .filled)
-
--- one triangle of a cap, by its corners
-module _ (e : Layer) (k : ℕ) {u v w : ℕ} {old new : List ℕ} (f : Put (tri u v w ∷ []) old new) (eu : u ≡ ring e 0) where
-  two : ring e (k + 2) ≡ ring e (suc (suc k))
-  two = let n : k + 2 ≡ suc (suc k) = omega arith in ap (ring e) n
-
-  pub floor-placed : v ≡ ring e (k + 2) → w ≡ ring e (k + 1) → Put (floorTri e (suc k) ∷ []) old new
-  floor-placed ev ew =
-      subst (λ (t : Tri). Put (t ∷ []) old new) (corners eu (ev ∙ two) (ew ∙ ap (ring e) (add-one k))) f
-
-  pub roof-placed : v ≡ ring e (k + 1) → w ≡ ring e (k + 2) → Put (roofTri e (suc k) ∷ []) old new
-  roof-placed ev ew =
-      subst (λ (t : Tri). Put (t ∷ []) old new) (corners eu (ev ∙ ap (ring e) (add-one k)) (ew ∙ two)) f

@@ -1,12 +1,12 @@
 -- 01, "The closed triangle list", of a stack with its strips.
-use mathlib.Core.List.{List, [], _∷_, _++_}
+use mathlib.Core.List.{List, [], _∷_, _++_, map}
 use Prim.Native.Nat.{ℕ, zero, suc, _+_, _-_, _%_}
 use lib.ListN.{length}
 use Rattle.strip.specs.Bytes.{stepsOf}
 use Rattle.stack.specs.declared.Layer.{Layer}
 use Rattle.stack.specs.Entries.{entry, steps}
 use Rattle.stack.specs.Strips.{bandPart}
-use Rattle.mesh.specs.Triangles.{Tri, bandFrom, roofFrom, floorFrom}
+use Rattle.mesh.specs.Triangles.{Tri, turned, bandFrom, fanTo}
 
 -- "Vertices are numbered through the stack from 0": point i of a layer's trace, and "Indices run round"
 unfoldable pub ring : Layer → ℕ → ℕ
@@ -21,13 +21,13 @@ unfoldable pub bandsTo : List Layer → List ℕ → ℕ → List Tri
 bandsTo es l zero = []
 bandsTo es l (suc k) = bandsTo es l k ++ bandOf es l k
 
--- "Then the bottom cap: (P0, Pk+1, Pk) for k from 1 to m-2. Then the top cap: (P0, Pk, Pk+1) for k from 1 to its number of points
--- less 2."
-unfoldable pub floorOf : Layer → List Tri
-floorOf e = floorFrom (ring e) 1 (e .count - 2)
+-- "the top cap: (P0, Pk, Pk+1) for k from 1 to its number of points less 2"
+unfoldable pub topCap : Layer → List Tri
+topCap e = fanTo (ring e) (e .count - 2)
 
-unfoldable pub roofOf : Layer → List Tri
-roofOf e = roofFrom (ring e) 1 (e .count - 2)
+-- "the bottom cap: (P0, Pk+1, Pk) for k from 1 to m-2": the triangles of a top cap, each turned
+unfoldable pub bottomCap : Layer → List Tri
+bottomCap e = map turned (topCap e)
 
 abbrev pub bottom : List Layer → Layer
 bottom es = entry es 0
@@ -35,8 +35,9 @@ bottom es = entry es 0
 abbrev pub top : List Layer → Layer
 top es = entry es (length es - 1)
 
+-- the bands, "Then the bottom cap", "Then the top cap"
 unfoldable pub closed : List Layer → List ℕ → List Tri
-closed es l = bandsTo es l (length es - 1) ++ floorOf (bottom es) ++ roofOf (top es)
+closed es l = bandsTo es l (length es - 1) ++ bottomCap (bottom es) ++ topCap (top es)
 
 -- how many they are
 unfoldable pub triangles : List Layer → ℕ

@@ -1,6 +1,7 @@
 -- 01, "What comes back", for a volume and for the closed triangle list of a stack: 11, 1, 12, then trace by trace 2 to 6, then 7, 8,
 -- 9. "Each refusal returns number and place only; the lent memory is untouched." "The triangle list needs three numbers a
 -- triangle"; "Success fills the front .. and leaves the rest."
+use mathlib.Core.Path.{_≡_}
 use mathlib.Core.List.{List, [], _∷_, _++_}
 use Prim.Native.Nat.{ℕ, _*_, _≤_}
 use lib.IntN.{ℤ}
@@ -15,6 +16,7 @@ use Rattle.mesh.specs.declared.Volumed.{Volumed}
 use Rattle.mesh.specs.declared.Volumed.the-variants as volume-is
 use Rattle.mesh.specs.declared.Meshed.{Meshed}
 use Rattle.mesh.specs.declared.Meshed.the-variants as mesh-is
+use Rattle.mesh.specs.Triangles.{Tri, sides}
 use Rattle.mesh.specs.Closed.{closed, triangles, numbers}
 use Rattle.mesh.specs.Volume.{sixAll}
 use Rattle.mesh.specs.Bands.{xOf, yOf, zOf}
@@ -41,3 +43,10 @@ pub data Triangled (es : List Layer) (c : List ℤ) (l : List ℕ) (out : List �
   refused : {r : Refusal} → Stopped (listGates es c l out) r → Triangled es c l out out (mesh-is.Refused r)
   whole : AcceptedStack es c → 3 * triangles es ≤ length out → StripsRight es l
       → Triangled es c l out (numbers (closed es l) ++ drop (3 * triangles es) out) (mesh-is.Closed (triangles es) (sixTimes es c l))
+
+-- what 01 says of a list ts that was given, with n triangles and six times the volume s answered beside it: it is closed, "Every
+-- directed side occurs exactly as often as its reverse."
+pub record ClosedList (es : List Layer) (c : List ℤ) (ts : List Tri) (n : ℕ) (s : ℤ) : Type 0 where
+  pub number : n ≡ length ts
+  pub volume : s ≡ sixAll (xOf c) (yOf c) (zOf es) ts
+  pub balance : (x y : ℕ) → sides x y ts ≡ sides y x ts

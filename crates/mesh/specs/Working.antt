@@ -16,15 +16,15 @@ pub record Joined (a b : List ℤ) (l : List ℕ) : Type 0 where
   pub pair : Pair a b
   pub strip : IsStrip (count a) (count b) l
 
--- an accepted stack with its strips, by its arrays
+-- an accepted stack, by value, with its strips
 pub record Fitted (st : Stack) (c : List ℤ) (l : List ℕ) : Type 0 where
   pub stack : AcceptedStack (laid st) c
   pub strips : StripsRight (laid st) l
 
 -- a stack whose triangles can be counted
 pub record Sized (st : Stack) : Type 0 where
-  pub some : 0 < st .layers
-  pub twenty : st .layers ≤ 20
-  pub three : (k : ℕ) → k < st .layers → 3 ≤ entry (laid st) k .count
-  pub many : (k : ℕ) → k < st .layers → entry (laid st) k .count ≤ 250
+  pub some : 0 < st .count
+  pub twenty : st .count ≤ 20
+  pub three : (k : ℕ) → k < st .count → 3 ≤ entry (laid st) k .count
+  pub many : (k : ℕ) → k < st .count → entry (laid st) k .count ≤ 250
   pub steps : steps (laid st) ≤ 9500

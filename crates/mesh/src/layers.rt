@@ -10,7 +10,7 @@ use stack::layer_at;
 
 // Where the steps of band `k` end, and those of the next begin.
 pub(crate) fn band_end(stack: Stack, k: usize, at: usize) -> usize
-    requires { ⌜ (suc k < stack .layers) × (stack .layers ≤ 20) × (at ≡ bandStart (laid stack) k)
+    requires { ⌜ (suc k < stack .count) × (stack .count ≤ 20) × (at ≡ bandStart (laid stack) k)
         × (bandStart (laid stack) (suc k) ≤ 9500) ⌝ }
     ensures { λ r. ⌜ r ≡ bandStart (laid stack) (suc k) ⌝ }
 {
@@ -25,6 +25,6 @@ pub(crate) fn triangle_count(stack: Stack, taken: usize) -> usize
     ensures { λ r. ⌜ r ≡ triangles (laid stack) ⌝ }
 {
     let bottom = layer_at(stack, 0);
-    let top = layer_at(stack, stack.layers - 1);
+    let top = layer_at(stack, stack.count - 1);
     taken + (bottom.count - 2) + (top.count - 2)
 }

@@ -1,18 +1,15 @@
 // The closed triangle list of a stack, and six times its volume.
-ghost use mathlib.Core.List.{List};
-ghost use Rattle.stack.specs.declared.Layer.{Layer};
-ghost use Rattle.stack.specs.Gathered.{Gathers};
+ghost use Rattle.stack.specs.Laid.{laid};
 ghost use Rattle.mesh.specs.Meshing.{Measured, Triangled};
 use crate::layers::triangle_count;
 use crate::six::six_of;
 use crate::writers::put_all;
 use fault::Fault;
 use fault::Refusal;
+use fault::refuse;
 use stack::Stack;
 use stack::StackJudgement;
 use stack::StripsJudgement;
-use stack::stack_refusal;
-use stack::strips_refusal;
 
 mod layers;
 mod six;
@@ -32,44 +29,36 @@ pub enum Meshed {
 
 // Takes every stack and every slice: the stack is judged, then the strips.
 pub fn volume(stack: Stack, coords: &[i32], strips: &[u8]) -> Volumed
-    ensures { λ r. ⌜ ((es : List Layer) → Gathers stack es → Measured es (now (coords .entry)) (now (strips .entry)) r) ⌝ }
+    ensures { λ r. ⌜ Measured (laid stack) (now (coords .entry)) (now (strips .entry)) r ⌝ }
 {
-    let judged = stack::judge_stack(stack, coords);
-    let StackJudgement::Fit {
-        points: _,
-        steps: _,
-    } = judged
-    else {
-        return Volumed::Refused(stack_refusal(judged));
-    };
-    let judged = stack::judge_strips(stack, strips);
-    let StripsJudgement::Whole = judged else {
-        return Volumed::Refused(strips_refusal(judged));
-    };
+    match stack::judge_stack(stack, coords) {
+        StackJudgement::Fit { .. } => {}
+        StackJudgement::Refused(refusal) => return Volumed::Refused(refusal),
+    }
+    match stack::judge_strips(stack, strips) {
+        StripsJudgement::Whole => {}
+        StripsJudgement::Refused(refusal) => return Volumed::Refused(refusal),
+    }
     Volumed::Six(six_of(stack, coords, strips))
 }
 
 // Takes every stack and every slice. The room is held against the stack alone, before the strips are looked at, and nothing is
 // written before they are judged. Six times the volume is what `volume` answers.
 pub fn triangles(stack: Stack, coords: &[i32], strips: &[u8], out: &mut [u32]) -> Meshed
-    ensures { λ r. ⌜ ((es : List Layer) → Gathers stack es
-        → Triangled es (now (coords .entry)) (now (strips .entry)) (now (out .entry)) (now (out .exit)) r) ⌝ }
+    ensures { λ r. ⌜ Triangled (laid stack) (now (coords .entry)) (now (strips .entry)) (now (out .entry)) (now (out .exit)) r ⌝ }
 {
-    let judged = stack::judge_stack(stack, coords);
-    let StackJudgement::Fit { points: _, steps } = judged else {
-        return Meshed::Refused(stack_refusal(judged));
+    let steps = match stack::judge_stack(stack, coords) {
+        StackJudgement::Fit { points: _, steps } => steps,
+        StackJudgement::Refused(refusal) => return Meshed::Refused(refusal),
     };
     let count = triangle_count(stack, steps);
     if out.len() < 3 * count {
-        return Meshed::Refused(Refusal {
-            fault: Fault::Room,
-            place: 0,
-        });
+        return Meshed::Refused(refuse(Fault::Room, 0));
     }
-    let judged = stack::judge_strips(stack, strips);
-    let StripsJudgement::Whole = judged else {
-        return Meshed::Refused(strips_refusal(judged));
-    };
+    match stack::judge_strips(stack, strips) {
+        StripsJudgement::Whole => {}
+        StripsJudgement::Refused(refusal) => return Meshed::Refused(refusal),
+    }
     let six = six_of(stack, coords, strips);
     put_all(out, stack, strips, steps);
     Meshed::Closed {

@@ -54,7 +54,7 @@ fn by_rule(h: i32, a: &[i32], b: &[i32], part: &[u8]) -> i64
 
 // Six times the volume of band `k`, whose steps begin at `at`.
 fn band_six(stack: Stack, coords: &[i32], strips: &[u8], k: usize, at: usize) -> i64
-    requires { ⌜ Fitted stack (now coords) (now strips) × (suc k < stack .layers) × (at ≡ bandStart (laid stack) k) ⌝ }
+    requires { ⌜ Fitted stack (now coords) (now strips) × (suc k < stack .count) × (at ≡ bandStart (laid stack) k) ⌝ }
     ensures { λ r. ⌜ r ≡ bandRule (laid stack) (now (coords .entry)) (now (strips .entry)) k ⌝ }
 {
     let lower = layer_at(stack, k);
@@ -73,7 +73,7 @@ pub(crate) fn six_of(stack: Stack, coords: &[i32], strips: &[u8]) -> i64
     requires { ⌜ Fitted stack (now coords) (now strips) ⌝ }
     ensures { λ r. ⌜ r ≡ sixOf (laid stack) (now (coords .entry)) (now (strips .entry)) ⌝ }
 {
-    let layers = stack.layers;
+    let layers = stack.count;
     let mut six: i64 = 0;
     let mut at = 0;
     let mut k = 0;

@@ -7,10 +7,10 @@ ghost use lib.ListN.{length};
 ghost use Rattle.ways.specs.Strip.{Strip};
 ghost use Rattle.stack.specs.Entries.{bandStart, steps};
 ghost use Rattle.stack.specs.Laid.{laid};
-ghost use Rattle.mesh.specs.Triangles.{bandFrom};
+ghost use Rattle.mesh.specs.Triangles.{tri, bandFrom, fanTri};
 ghost use Rattle.strip.specs.Bytes.{stepsOf};
-ghost use Rattle.mesh.specs.Closed.{ring, floorOf, roofOf, bandOf, bandsTo, closed, triangles};
-ghost use Rattle.mesh.specs.Writing.{Put, tri, floorTri, roofTri, Numbered, StepReady, Stepped, Drawn};
+ghost use Rattle.mesh.specs.Closed.{ring, bandOf, bandsTo, closed, triangles};
+ghost use Rattle.mesh.specs.Writing.{Put, facing, capOf, Numbered, StepReady, Stepped, Drawn};
 use stack::Layer;
 use stack::Stack;
 use stack::layer_at;
@@ -76,59 +76,38 @@ fn put_band(out: &mut [u32], lower: Layer, upper: Layer, part: &[u8])
     }
 }
 
-// Triangle `k` of the bottom cap: seen from below, so that it runs the other way round.
-fn floor_triangle(out: &mut [u32], layer: Layer, k: usize)
+// Triangle `k` of a cap, from 0 on. Seen from below, that of the bottom cap runs the other way round.
+fn cap_triangle(out: &mut [u32], layer: Layer, k: usize, bottom: bool)
     requires { ⌜ Numbered layer × (suc (suc k) ≤ layer .count) × (3 ≤ length (now out)) ⌝ }
-    ensures { λ _. ⌜ Put (floorTri layer (suc k) ∷ []) (now (out .entry)) (now (out .exit)) ⌝ }
+    ensures { λ _. ⌜ Put (facing bottom (fanTri (ring layer) (suc k)) ∷ []) (now (out .entry)) (now (out .exit)) ⌝ }
 {
     let first = vertex(layer, 0);
     let near = vertex(layer, k + 1);
     let far = vertex(layer, k + 2);
-    put(out, first, far, near);
-}
-
-// Triangle `k` of the top cap.
-fn roof_triangle(out: &mut [u32], layer: Layer, k: usize)
-    requires { ⌜ Numbered layer × (suc (suc k) ≤ layer .count) × (3 ≤ length (now out)) ⌝ }
-    ensures { λ _. ⌜ Put (roofTri layer (suc k) ∷ []) (now (out .entry)) (now (out .exit)) ⌝ }
-{
-    let first = vertex(layer, 0);
-    let near = vertex(layer, k + 1);
-    let far = vertex(layer, k + 2);
+    if bottom {
+        put(out, first, far, near);
+        return;
+    }
     put(out, first, near, far);
 }
 
-// The bottom cap of a layer.
-fn put_floor(out: &mut [u32], layer: Layer)
+// The bottom cap of a layer, or its top cap.
+fn put_cap(out: &mut [u32], layer: Layer, bottom: bool)
     requires { ⌜ Numbered layer × (3 * (layer .count - 2) ≤ length (now out)) ⌝ }
-    ensures { λ _. ⌜ Put (floorOf layer) (now (out .entry)) (now (out .exit)) ⌝ }
+    ensures { λ _. ⌜ Put (capOf bottom layer) (now (out .entry)) (now (out .exit)) ⌝ }
 {
     let count = layer.count;
     let mut k = 0;
     while k + 2 < count {
         let at = 3 * k;
-        floor_triangle(&mut out[at..], layer, k);
-        k += 1;
-    }
-}
-
-// The top cap of a layer.
-fn put_roof(out: &mut [u32], layer: Layer)
-    requires { ⌜ Numbered layer × (3 * (layer .count - 2) ≤ length (now out)) ⌝ }
-    ensures { λ _. ⌜ Put (roofOf layer) (now (out .entry)) (now (out .exit)) ⌝ }
-{
-    let count = layer.count;
-    let mut k = 0;
-    while k + 2 < count {
-        let at = 3 * k;
-        roof_triangle(&mut out[at..], layer, k);
+        cap_triangle(&mut out[at..], layer, k, bottom);
         k += 1;
     }
 }
 
 // Band `k`, whose steps begin at `at`, and where those of the next begin.
 fn put_band_of(out: &mut [u32], stack: Stack, strips: &[u8], k: usize, at: usize) -> usize
-    requires { ⌜ Drawn stack (now strips) × (suc k < stack .layers) × (at ≡ bandStart (laid stack) k)
+    requires { ⌜ Drawn stack (now strips) × (suc k < stack .count) × (at ≡ bandStart (laid stack) k)
         × (3 * bandStart (laid stack) (suc k) ≤ 3 * at + length (now out)) ⌝ }
     ensures { λ r. ⌜ (r ≡ bandStart (laid stack) (suc k))
         × Put (bandOf (laid stack) (now (strips .entry)) k) (now (out .entry)) (now (out .exit)) ⌝ }
@@ -143,9 +122,9 @@ fn put_band_of(out: &mut [u32], stack: Stack, strips: &[u8], k: usize, at: usize
 // All bands, from the bottom up: each is lent the part of the list from where the one below it ends.
 fn put_bands(out: &mut [u32], stack: Stack, strips: &[u8])
     requires { ⌜ Drawn stack (now strips) × (3 * steps (laid stack) ≤ length (now out)) ⌝ }
-    ensures { λ _. ⌜ Put (bandsTo (laid stack) (now (strips .entry)) (stack .layers - 1)) (now (out .entry)) (now (out .exit)) ⌝ }
+    ensures { λ _. ⌜ Put (bandsTo (laid stack) (now (strips .entry)) (stack .count - 1)) (now (out .entry)) (now (out .exit)) ⌝ }
 {
-    let layers = stack.layers;
+    let layers = stack.count;
     let mut at = 0;
     let mut k = 0;
     while k + 1 < layers {
@@ -161,10 +140,10 @@ pub(crate) fn put_all(out: &mut [u32], stack: Stack, strips: &[u8], taken: usize
     ensures { λ _. ⌜ Put (closed (laid stack) (now (strips .entry))) (now (out .entry)) (now (out .exit)) ⌝ }
 {
     let bottom = layer_at(stack, 0);
-    let top = layer_at(stack, stack.layers - 1);
-    let floor = 3 * taken;
-    let roof = floor + 3 * (bottom.count - 2);
+    let top = layer_at(stack, stack.count - 1);
+    let bottom_at = 3 * taken;
+    let top_at = bottom_at + 3 * (bottom.count - 2);
     put_bands(out, stack, strips);
-    put_floor(&mut out[floor..], bottom);
-    put_roof(&mut out[roof..], top);
+    put_cap(&mut out[bottom_at..], bottom, true);
+    put_cap(&mut out[top_at..], top, false);
 }

@@ -11,7 +11,7 @@ use Rattle.bands.proofs.most_cells.Statement.{statement}
 use Rattle.bands.proofs.most_cells.Tie as tie
 
 abbrev Inv-loop : tie.InvT-loop
-Inv-loop stack layers most₀ k₀ most k = (k ≤ layers - 1) × (layers ≡ stack .layers) × (most ≡ cellsTo (laid stack) k)
+Inv-loop stack layers most₀ k₀ most k = (k ≤ layers - 1) × (layers ≡ stack .count) × (most ≡ cellsTo (laid stack) k)
 
 abbrev μ-loop : tie.MeasureT-loop
 μ-loop stack layers most₀ k₀ most k = layers - k

@@ -25,7 +25,8 @@ best-requires c κs = search needs
 
 add-result : tie.Need-add-result
 add-result c =
-    let layers = c .before .before .before .before .before .before .before .before .before .before .before in
+    let called = c .before .before .before .before .before .before in
+    let layers = called .before .before .before .before .before in
     omega (arith, band-small (layers .before .before .before .before .pre) (layers .before .layer-at .ensures) (layers .layer-at2 .ensures))
 
 same-length : tie.Need-same-length
@@ -37,9 +38,10 @@ same-length-2 c = search needs
 returns : tie.Need-returns
 returns c =
     let called = c .before .before .before .before .before .before in
-    let layers = called .before .before .before .before .before in
-    band-filled (layers .before .before .before .before .pre) (layers .before .layer-at .ensures) (layers .layer-at2 .ensures) (called .before .before .before .before .trace-of .ensures)
-    (called .before .before .before .trace-of2 .ensures) (called .best .ensures)
+    let traces = called .before .before .before in
+    let layers = traces .before .before in
+    band-filled (layers .before .before .before .before .pre) (layers .before .layer-at .ensures) (layers .layer-at2 .ensures)
+    (traces .before .trace-of .ensures) (traces .trace-of2 .ensures) (called .best .ensures)
 
 pub put-strip-spec : {M : Type 1} → statement M
 put-strip-spec =

@@ -11,7 +11,7 @@ use Rattle.bands.proofs.put_strips.Tie as tie
 
 abbrev Inv-loop : tie.InvT-loop
 Inv-loop stack coords strips₀ work₀ layers at₀ k₀ strips work at k =
-    BandsSo (laid stack) coords k at strips₀ work₀ strips work × (layers ≡ stack .layers)
+    BandsSo (laid stack) coords k at strips₀ work₀ strips work × (layers ≡ stack .count)
 
 abbrev μ-loop : tie.MeasureT-loop
 μ-loop stack coords strips₀ work₀ layers at₀ k₀ strips work at k = layers - k
@@ -43,37 +43,39 @@ part-put-strip-end c = omega arith
 
 put-strip-requires : tie.Need-put-strip-requires Inv-loop μ-loop
 put-strip-requires c κs =
-    let s = c .before .before .before .before .before .before in
-    let so = c .before .before .before .loop .inv .0 in
-    let here = inside (c .before .before) in
-    let left = room-left (s .pre .0) (s .pre .1) so here in record {
+    let here = c .before .before in
+    let s = here .before .before .before .before in
+    let so = here .before .loop .inv in record {
       stack = s .pre .0;
-      band = omega (arith, c .before .before .before .loop .inv .1);
-      forPart = simp (length-take, length-drop) (omega (arith, left));
-      forWork = work-left (s .pre .0) (s .pre .1) so here;
+      band = omega (arith, so .1);
+      forPart = simp (length-take, length-drop) (omega (arith, room-left (s .pre .0) (s .pre .1) (so .0) (inside here)));
+      forWork = work-left (s .pre .0) (s .pre .1) (so .0) (inside here);
     }
 
 add-at : tie.Need-add-at Inv-loop μ-loop
 add-at c =
-    let s = c .before .before .before .before .before .before .before .before .before .before .before in
-    let so = c .before .before .before .before .before .before .before .before .loop .inv .0 in
-    let left = room-left (s .pre .0) (s .pre .1) so (inside (c .before .before .before .before .before .before .before)) in
-    omega (arith, left, c .before .before .before .before .put-strip .ensures .steps, so .stripsLong, s .good)
+    let put = c .before .before .before .before in
+    let here = put .before .before .before in
+    let s = here .before .before .before .before in
+    let so = here .before .loop .inv .0 in
+    omega (arith, room-left (s .pre .0) (s .pre .1) so (inside here), put .put-strip .ensures .steps, so .stripsLong, s .good)
 
 add-k : tie.Need-add-k Inv-loop μ-loop
 add-k c =
-    let s = c .before .before .before .before .before .before .before .before .before .before .before in
-    omega (arith, inside (c .before .before .before .before .before .before .before), laid-twenty (s .args .stack) (s .pre .0 .layers), c .before .before .before .before .before .before .before .before .loop .inv .1)
+    let here = c .before .before .before .before .before .before .before in
+    let s = here .before .before .before .before in
+    omega (arith, inside here, laid-twenty (s .args .stack) (s .pre .0 .layers), here .before .loop .inv .1)
 
 loop-less : tie.Need-loop-less Inv-loop μ-loop
 loop-less c = omega arith
 
 loop-again : tie.Need-loop-again Inv-loop μ-loop
 loop-again c =
-    let s = c .before .before .before .before .before .before .before .before .before .before .before in
-    let so = c .before .before .before .before .before .before .before .before .loop .inv in
-    let one = c .before .before .before .before .put-strip in
-    (bands-more (s .pre .0) (s .pre .1) (so .0) (inside (c .before .before .before .before .before .before .before)) (one .ensures) (one .kept .1 .1 .1 .0), so .1)
+    let put = c .before .before .before .before in
+    let here = put .before .before .before in
+    let s = here .before .before .before .before in
+    let so = here .before .loop .inv in
+    (bands-more (s .pre .0) (s .pre .1) (so .0) (inside here) (put .put-strip .ensures) (put .put-strip .kept .1 .1 .1 .0), so .1)
 
 same-length : tie.Need-same-length Inv-loop μ-loop
 same-length c = c .before .loop .inv .0 .stripsLong

@@ -1,6 +1,7 @@
 -- `mesh::layers::triangle_count` meets its contract. Assumes nothing.
 use native.Mathlib.Omega.{arith}
-use Rattle.mesh.proofs.MeshLaws.{in-sized, triangles-counted}
+use Rattle.mesh.proofs.ClosedLaws.{triangles-counted}
+use Rattle.mesh.proofs.MeshLaws.{in-sized}
 use borrow.Author.Needs.{needs}
 use Rattle.mesh.proofs.layers.triangle_count.Statement.{statement}
 use Rattle.mesh.proofs.layers.triangle_count.Tie as tie

@@ -19,26 +19,31 @@ add-layer-at c = search needs
 layer-at-requires-2 : tie.Need-layer-at-requires-2
 layer-at-requires-2 c κs = search needs
 
-inside : (c : tie.After-struct-known2)
-    → c .before .before .before .before .before .args .at
-    + (c .before .before .before .layer-at .result .count + c .before .before .layer-at2 .result .count)
-    ≤ length (c .before .before .before .before .before .args .strips .now)
+-- the places of the entry and of both layers
+abbrev begun : tie.After-layer-at2 → tie.Start
+begun c = c .before .before .before
+
+abbrev layers : tie.After-trace-of2 → tie.After-layer-at2
+layers c = c .before .before .before .before .before .before .before .before
+
+inside : (c : tie.After-layer-at2) →
+    let a = begun c .args in a .at + (c .before .layer-at .result .count + c .layer-at2 .result .count) ≤ length (a .strips .now)
 inside c =
-    let s = c .before .before .before .before .before in
-    part-inside (s .args .stack) (s .args .k) (s .pre .2) (c .before .before .before .layer-at .ensures)
-    (c .before .before .layer-at2 .ensures) (s .args .strips .now) (s .pre .1) (s .pre .0 .strips .long)
+    let s = begun c in
+    part-inside (s .args .stack) (s .args .k) (s .pre .2) (c .before .layer-at .ensures) (c .layer-at2 .ensures) (s .args .strips .now)
+    (s .pre .1) (s .pre .0 .strips .long)
 
 add-to : tie.Need-add-to
-add-to c = omega (arith, inside c)
+add-to c = omega (arith, inside (c .before .before))
 
 add-to-2 : tie.Need-add-to-2
-add-to-2 c = omega (arith, inside c)
+add-to-2 c = omega (arith, inside (c .before .before))
 
 sub-by-rule : tie.Need-sub-by-rule
 sub-by-rule c =
-    let high = c .before .before .before .before .before .before in
-    let s = high .before .before .before in
-    fits-holds w32 (rise-held (s .pre .0) (s .pre .1) (high .before .layer-at .ensures) (high .layer-at2 .ensures)) tt
+    let both = c .before .before .before .before .before .before in
+    let s = begun both in
+    fits-holds w32 (rise-held (s .pre .0) (s .pre .1) (both .before .layer-at .ensures) (both .layer-at2 .ensures)) tt
 
 trace-of-requires : tie.Need-trace-of-requires
 trace-of-requires c κs = search needs
@@ -53,29 +58,29 @@ part-by-rule-start : tie.Need-part-by-rule-start
 part-by-rule-start c = search needs
 
 part-by-rule-end : tie.Need-part-by-rule-end
-part-by-rule-end c = inside (c .before .before .before .before .before .before)
+part-by-rule-end c = inside (layers c)
 
 by-rule-requires : tie.Need-by-rule-requires
 by-rule-requires c κs =
-    let s = c .before .before .before .before .before .before .before .before .before .before .before .before in
-    let low = c .before .before .before .before .before .before .before .before .before .before .layer-at .ensures in
-    let high = c .before .before .before .before .before .before .before .before .before .layer-at2 .ensures in
-    let f = s .pre .0 in (
-      band-joined f (s .pre .1) low high (c .before .before .trace-of .ensures) (c .before .trace-of2 .ensures)
+    let both = layers (c .before) in
+    let low = both .before .layer-at .ensures in
+    let high = both .layer-at2 .ensures in
+    let s = begun both in (
+      band-joined (s .pre .0) (s .pre .1) low high (c .before .before .trace-of .ensures) (c .before .trace-of2 .ensures)
           (part-is (s .args .stack) (s .args .k) (s .pre .2) low high (s .args .strips .now)),
-      rise-within f (s .pre .1) low high,
+      rise-within (s .pre .0) (s .pre .1) low high,
     )
 
 returns : tie.Need-returns
 returns c =
-    let s = c .before .before .before .before .before .before .before .before .before .before .before .before .before in
-    let high = c .before .before .before .before .before .before .before .before .before .before in
-    let low = high .before .layer-at .ensures in
-    let up = high .layer-at2 .ensures in
-    let f = s .pre .0 in
-    rule-returned f (s .args .k) (s .pre .1)
-    (band-ruled f (s .pre .1) low up (c .before .before .before .trace-of .ensures) (c .before .before .trace-of2 .ensures)
-    (part-is (s .args .stack) (s .args .k) (s .pre .2) low up (s .args .strips .now)) (rise-read f (s .pre .1) low up)
+    let traces = c .before .before in
+    let both = layers traces in
+    let low = both .before .layer-at .ensures in
+    let high = both .layer-at2 .ensures in
+    let s = begun both in
+    rule-returned (s .pre .0) (s .args .k) (s .pre .1)
+    (band-ruled (s .pre .0) (s .pre .1) low high (traces .before .trace-of .ensures) (traces .trace-of2 .ensures)
+    (part-is (s .args .stack) (s .args .k) (s .pre .2) low high (s .args .strips .now)) (rise-read (s .pre .0) (s .pre .1) low high)
     (c .by-rule .ensures))
 
 pub band-six-spec : {M : Type 1} → statement M

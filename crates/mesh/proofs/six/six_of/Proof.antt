@@ -9,7 +9,7 @@ use Rattle.mesh.proofs.six.six_of.Statement.{statement}
 use Rattle.mesh.proofs.six.six_of.Tie as tie
 
 abbrev Inv-loop : tie.InvT-loop
-Inv-loop stack coords strips layers six₀ at₀ k₀ six at k = SixSo stack coords strips k at six × (layers ≡ stack .layers)
+Inv-loop stack coords strips layers six₀ at₀ k₀ six at k = SixSo stack coords strips k at six × (layers ≡ stack .count)
 
 abbrev μ-loop : tie.MeasureT-loop
 μ-loop stack coords strips layers six₀ at₀ k₀ six at k = layers - k

@@ -49,9 +49,9 @@ loop-less c = omega arith
 
 loop-again : tie.Need-loop-again Inv-loop μ-loop
 loop-again c =
-    let s = c .before .before .before .before .before .before .before .before .before in
-    let so = c .before .before .before .before .before .before .loop in
-    band-more (so .inv) (omega arith) (s .pre .3) (c .before .before .put-step .ensures) (c .before .before .put-step .kept .0)
+    let step = c .before .before in
+    let so = step .before .before .before .before in
+    band-more (so .loop .inv) (omega arith) (so .before .before .before .pre .3) (step .put-step .ensures) (step .put-step .kept .0)
 
 same-length : tie.Need-same-length Inv-loop μ-loop
 same-length c = c .before .loop .inv .wrote .long

@@ -17,20 +17,22 @@ add-layer-at c = search needs
 layer-at-requires-2 : tie.Need-layer-at-requires-2
 layer-at-requires-2 c κs = search needs
 
-inside : (c : tie.After-struct-known2)
-    → c .before .before .before .before .before .before .args .at
-    + (c .before .before .before .layer-at .result .count + c .before .before .layer-at2 .result .count)
-    ≤ length (c .before .before .before .before .before .before .args .strips .now)
+-- the entry, from where both layers are read
+abbrev begun : tie.After-layer-at2 → tie.Start
+begun c = c .before .before .before .before
+
+inside : (c : tie.After-layer-at2) →
+    let a = begun c .args in a .at + (c .before .layer-at .result .count + c .layer-at2 .result .count) ≤ length (a .strips .now)
 inside c =
-    let s = c .before .before .before .before .before .before in
-    part-inside (s .args .stack) (s .args .k) (s .pre .2) (c .before .before .before .layer-at .ensures)
-    (c .before .before .layer-at2 .ensures) (s .args .strips .now) (s .pre .1) (s .pre .0 .strips .long)
+    let s = begun c in
+    part-inside (s .args .stack) (s .args .k) (s .pre .2) (c .before .layer-at .ensures) (c .layer-at2 .ensures) (s .args .strips .now)
+    (s .pre .1) (s .pre .0 .strips .long)
 
 add-to : tie.Need-add-to
-add-to c = omega (arith, inside c)
+add-to c = omega (arith, inside (c .before .before))
 
 add-to-2 : tie.Need-add-to-2
-add-to-2 c = omega (arith, inside c)
+add-to-2 c = omega (arith, inside (c .before .before))
 
 sub-put-band : tie.Need-sub-put-band
 sub-put-band c = search needs
@@ -39,24 +41,27 @@ part-put-band-start : tie.Need-part-put-band-start
 part-put-band-start c = search needs
 
 part-put-band-end : tie.Need-part-put-band-end
-part-put-band-end c = inside (c .before)
+part-put-band-end c = inside (c .before .before .before)
 
 put-band-requires : tie.Need-put-band-requires
 put-band-requires c κs =
-    let s = c .before .before .before .before .before .before .before .before in
-    band-asked (s .pre .0) (s .args .k) (s .pre .1) (s .pre .2) (c .before .before .before .before .before .layer-at .ensures)
-    (c .before .before .before .before .layer-at2 .ensures) (s .args .out .now) (s .pre .3)
+    let both = c .before .before .before .before in
+    let s = begun both in
+    band-asked (s .pre .0) (s .args .k) (s .pre .1) (s .pre .2) (both .before .layer-at .ensures) (both .layer-at2 .ensures)
+    (s .args .out .now) (s .pre .3)
 
 same-length : tie.Need-same-length
 same-length c = search needs
 
 returns : tie.Need-returns
 returns c =
-    let s = c .before .before .before .before .before .before .before .before .before .before .before in
-    let low = c .before .before .before .before .before .before .before .before .layer-at .ensures in
-    let high = c .before .before .before .before .before .before .before .layer-at2 .ensures in (
+    let put = c .before .before in
+    let both = put .before .before .before .before .before in
+    let low = both .before .layer-at .ensures in
+    let high = both .layer-at2 .ensures in
+    let s = begun both in (
       part-end (s .args .stack) (s .args .k) (s .pre .2) low high,
-      band-filled (s .pre .0) (s .args .k) (s .pre .1) (s .pre .2) low high (c .before .before .put-band .ensures),
+      band-filled (s .pre .0) (s .args .k) (s .pre .1) (s .pre .2) low high (put .put-band .ensures),
     )
 
 pub put-band-of-spec : {M : Type 1} → statement M

@@ -8,7 +8,7 @@ use Rattle.mesh.proofs.writers.put_bands.Statement.{statement}
 use Rattle.mesh.proofs.writers.put_bands.Tie as tie
 
 abbrev Inv-loop : tie.InvT-loop
-Inv-loop out₀ stack strips layers at₀ k₀ out at k = BandsSo stack strips k at out₀ out × (layers ≡ stack .layers)
+Inv-loop out₀ stack strips layers at₀ k₀ out at k = BandsSo stack strips k at out₀ out × (layers ≡ stack .count)
 
 abbrev μ-loop : tie.MeasureT-loop
 μ-loop out₀ stack strips layers at₀ k₀ out at k = layers - k
