@@ -1,17 +1,14 @@
 -- Two outcomes that a contract allows for one input coincide: what is shown of an answer is a function of it, and the answers coincide by
--- the theorems of the crates below. (`register_judge`'s contract is an equation.) Assumes nothing.
+-- the theorems of the crates below. Assumes nothing.
 use mathlib.Core.Path.{_≡_, sym, ap, _∙_}
 use mathlib.Core.List.{List}
 use Prim.Native.Nat.{ℕ}
 use lib.IntN.{ℤ}
-use Rattle.strip.specs.declared.Valued.{Valued}
-use Rattle.strip.specs.Judging.{StripJudged}
-use Rattle.trace.specs.declared.Judgement.{Judgement}
+use lib.ListN.{length}
 use Rattle.trace.specs.Faults.{Given}
 use Rattle.trace.proofs.Exact.{judgement-unique}
+use Rattle.strip.specs.Judging.{StripJudged}
 use Rattle.strip.proofs.Exact.{strip-judged-unique}
-use Rattle.joining.specs.declared.Followed.{Followed}
-use Rattle.joining.specs.declared.Run.{Run}
 use Rattle.joining.specs.Answers.{BestAnswer, NextAnswer}
 use Rattle.joining.specs.Listing.{ListAnswer}
 use Rattle.joining.specs.Outcomes.{Same}
@@ -23,61 +20,55 @@ use Rattle.bands.specs.Bands.{BandsAnswer}
 use Rattle.bands.proofs.Exact.{bands-unique}
 use Rattle.mesh.specs.Meshing.{Measured, Triangled}
 use Rattle.mesh.proofs.Answers.{measured-once, triangled-once}
+use Rattle.register.specs.declared.FileRead.{FileRead}
+use Rattle.register.specs.Writing.{WriteAnswer}
+use Rattle.register.specs.Reading.{Lent}
+use Rattle.register.proofs.WriteExact.{write-unique}
+use Rattle.register.proofs.ReadExact.{read-unique}
+use Rattle.listing.specs.Listing.{ListingAnswer}
+use Rattle.listing.proofs.Unique.{answer-unique}
+use Rattle.entries.specs.Scattered.{scattered}
 use Rattle.exports.specs.declared.Answer.{Answer}
 use Rattle.exports.specs.declared.TraceAnswer.{TraceAnswer}
 use Rattle.exports.specs.declared.RunAnswer.{RunAnswer}
 use Rattle.exports.specs.declared.stacks.StackAnswer.{StackAnswer}
 use Rattle.exports.specs.declared.stacks.StepsAnswer.{StepsAnswer}
 use Rattle.exports.specs.declared.stacks.MeshAnswer.{MeshAnswer}
-use Rattle.exports.specs.Shown.{valued, followed, listed, judgedAs}
-use Rattle.register.specs.Writing.{WriteAnswer}
-use Rattle.register.proofs.WriteExact.{write-once}
-use Rattle.register.specs.Reading.{ReadAnswer}
-use Rattle.entries.specs.Reading.{lentEntries}
-use Rattle.entries.proofs.Exact.{read-once}
-use Rattle.entries.proofs.Exact as entries
-use Rattle.exports.specs.declared.files.FileAnswer.{FileAnswer}
-use Rattle.listing.specs.Listing.{ListingAnswer}
-use Rattle.listing.proofs.Unique.{answer-unique}
 use Rattle.exports.specs.declared.files.BytesAnswer.{BytesAnswer}
-use Rattle.exports.specs.Files.{writtenAs, readAs, listedAs}
+use Rattle.exports.specs.declared.files.FileAnswer.{FileAnswer}
+use Rattle.exports.specs.Shown.{Shows, valued, followed, listed, judgedAs}
 use Rattle.exports.specs.Stacks.{stackAs, bandedAs, volumedAs, meshedAs}
+use Rattle.exports.specs.Files.{writtenAs, readAs, listedAs, FileShown}
 
 -- what is shown of one answer
 same-shown : {X Y : Type 0} (show : X → Y) {x x′ : X} {r r′ : Y} {s s′ w w′ : List ℕ} → Same x x′ s s′ w w′ → r ≡ show x → r′ ≡ show x′
     → Same r r′ s s′ w w′
 same-shown show same e f = record { answer = e ∙ ap show (same .answer) ∙ sym f; strips = same .strips; works = same .works }
 
-pub register-judge-unique : {c : List ℤ} {r r′ : TraceAnswer} → ((x : Judgement) × (Given c x × (r ≡ judgedAs x)))
-    → ((x : Judgement) × (Given c x × (r′ ≡ judgedAs x))) → r ≡ r′
+pub register-judge-unique : {c : List ℤ} {r r′ : TraceAnswer} → Shows (Given c) judgedAs r → Shows (Given c) judgedAs r′ → r ≡ r′
 register-judge-unique (x, (p, e)) (y, (q, f)) = e ∙ ap judgedAs (judgement-unique p q) ∙ sym f
 
-pub register-judge-strip-unique : {a b : List ℤ} {l : List ℕ} {r r′ : Answer}
-    → ((x : Valued) × (StripJudged a b l x × (r ≡ valued x))) → ((x : Valued) × (StripJudged a b l x × (r′ ≡ valued x))) → r ≡ r′
+pub register-judge-strip-unique : {a b : List ℤ} {l : List ℕ} {r r′ : Answer} → Shows (StripJudged a b l) valued r
+    → Shows (StripJudged a b l) valued r′ → r ≡ r′
 register-judge-strip-unique (x, (p, e)) (y, (q, f)) = e ∙ ap valued (strip-judged-unique p q) ∙ sym f
 
 module _ {a b : List ℤ} {l work s s′ w w′ : List ℕ} where
-  pub register-best-unique : {r r′ : Answer} → ((x : Valued) × (BestAnswer a b l work s w x × (r ≡ valued x)))
-      → ((x : Valued) × (BestAnswer a b l work s′ w′ x × (r′ ≡ valued x))) → Same r r′ s s′ w w′
+  pub register-best-unique : {r r′ : Answer} → Shows (BestAnswer a b l work s w) valued r → Shows (BestAnswer a b l work s′ w′) valued r′
+      → Same r r′ s s′ w w′
   register-best-unique (x, (p, e)) (y, (q, f)) = same-shown valued (best-unique p q) e f
 
-  pub register-next-unique : {r r′ : Answer} → ((x : Followed) × (NextAnswer a b l work s w x × (r ≡ followed x)))
-      → ((x : Followed) × (NextAnswer a b l work s′ w′ x × (r′ ≡ followed x))) → Same r r′ s s′ w w′
+  pub register-next-unique : {r r′ : Answer} → Shows (NextAnswer a b l work s w) followed r → Shows (NextAnswer a b l work s′ w′) followed r′
+      → Same r r′ s s′ w w′
   register-next-unique (x, (p, e)) (y, (q, f)) = same-shown followed (followed-unique p q) e f
 
-  pub register-list-best-unique : {limit : ℕ} {r r′ : RunAnswer} → ((x : Run) × (ListAnswer a b limit l work s w x × (r ≡ listed x)))
-      → ((x : Run) × (ListAnswer a b limit l work s′ w′ x × (r′ ≡ listed x))) → Same r r′ s s′ w w′
+  pub register-list-best-unique : {limit : ℕ} {r r′ : RunAnswer} → Shows (ListAnswer a b limit l work s w) listed r
+      → Shows (ListAnswer a b limit l work s′ w′) listed r′ → Same r r′ s s′ w w′
   register-list-best-unique (x, (p, e)) (y, (q, f)) = same-shown listed (list-unique p q) e f
 
 -- ---- a stack and its strips
 
--- what a function shows of an answer
-abbrev Shows : {X Y : Type 0} → (X → Type 0) → (X → Y) → Y → Type 0
-Shows {X} Is show r = (x : X) × (Is x × (r ≡ show x))
-
-module _ {es : List Layer} where
-  pub register-judge-stack-unique : {c : List ℤ} {r r′ : StackAnswer} → Shows (StackJudged es c) stackAs r → Shows (StackJudged es c) stackAs r′
-      → r ≡ r′
+module _ {es : List Layer} {c : List ℤ} where
+  pub register-judge-stack-unique : {r r′ : StackAnswer} → Shows (StackJudged es c) stackAs r → Shows (StackJudged es c) stackAs r′ → r ≡ r′
   register-judge-stack-unique (x, (p, e)) (y, (q, f)) = e ∙ ap stackAs (stack-judged-unique p q) ∙ sym f
 
 module _ {es : List Layer} {c : List ℤ} {l : List ℕ} where
@@ -96,14 +87,23 @@ module _ {es : List Layer} {c : List ℤ} {l : List ℕ} where
 
   pub register-write-unique : {out new old : List ℕ} {r r′ : BytesAnswer} → Shows (WriteAnswer es c l out new) writtenAs r
       → Shows (WriteAnswer es c l out old) writtenAs r′ → (new ≡ old) × (r ≡ r′)
-  register-write-unique (x, (p, e)) (y, (q, f)) = let same = write-once p q in (same .0, e ∙ ap writtenAs (same .1) ∙ sym f)
+  register-write-unique (x, (p, e)) (y, (q, f)) = let same = write-unique p q in (same .0, e ∙ ap writtenAs (same .1) ∙ sym f)
 
 -- the answer, and the entries, the coordinates and the strips that are lent
-pub register-read-unique : (f : List ℕ) (es d d′ : List Layer) (c : List ℤ) (l : List ℕ) {b b′ : List ℤ} {m m′ : List ℕ} {r r′ : FileAnswer}
-    → Shows (ReadAnswer f (lentEntries es c l) (lentEntries d b m)) readAs r
-    → Shows (ReadAnswer f (lentEntries es c l) (lentEntries d′ b′ m′)) readAs r′ → (r ≡ r′) × entries.Same d d′ b b′ m m′
-register-read-unique f es d d′ c l (x, (p, e)) (y, (q, g)) =
-    let same = read-once f es c l d d′ p q in (e ∙ ap readAs (same .0) ∙ sym g, same .1)
+module _ {f : List ℕ} {es : List Layer} {c : List ℤ} {l : List ℕ} where
+  pub register-read-unique : {d d′ : List Layer} {b b′ : List ℤ} {m m′ : List ℕ} {r r′ : FileAnswer} → FileShown f es c l d b m r
+      → FileShown f es c l d′ b′ m′ r′ → (((r ≡ r′) × (d ≡ d′)) × (b ≡ b′)) × (m ≡ m′)
+  register-read-unique p q =
+      let same = read-unique (p .answer) (q .answer) in (
+        (
+          (
+            p .shown ∙ ap (λ (x : FileRead). readAs (x .stack .count) (x .answer)) (same .1) ∙ sym (q .shown),
+            p .entries ∙ ap (λ (x : FileRead). scattered (x .stack) es) (same .1) ∙ sym (q .entries),
+          ),
+          ap (λ (x : Lent). x .coords) (same .0),
+        ),
+        ap (λ (x : Lent). x .strips) (same .0),
+      )
 
 pub register-listing-unique : {t out new old : List ℕ} {r r′ : BytesAnswer} → Shows (ListingAnswer t out new) listedAs r
     → Shows (ListingAnswer t out old) listedAs r′ → (new ≡ old) × (r ≡ r′)

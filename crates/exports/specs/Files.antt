@@ -1,9 +1,10 @@
 -- 01, "What comes back", for the register file and the listing: what an entry point shows of an answer.
 use mathlib.Core.Path.{_≡_}
-use mathlib.Core.List.{List}
-use Prim.Native.Nat.{ℕ}
+use mathlib.Core.List.{List, _++_}
+use Prim.Native.Nat.{ℕ, _/_}
 use lib.IntN.{ℤ}
-use lib.ListN.{length}
+use lib.ListN.{length, drop}
+use Rattle.fault.specs.Status.{success}
 use Rattle.stack.specs.declared.Layer.{Layer}
 use Rattle.register.specs.declared.Written.{Written}
 use Rattle.register.specs.declared.Written.the-variants as written-is
@@ -39,3 +40,11 @@ pub record FileShown (f : List ℕ) (es : List Layer) (c : List ℤ) (l : List �
   pub answer : ReadAnswer f (lent (length es) c l) (lent (length es) c′ l′) given
   pub entries : es′ ≡ scattered (given .stack) es
   pub shown : r ≡ readAs (given .stack .count) (given .answer)
+
+-- the layers es over the coordinates c with the strips l came back, each at the front of its slice, with their numbers
+pub record ComesBack (es : List Layer) (c : List ℤ) (l : List ℕ) (es₀ : List Layer) (c₀ : List ℤ) (l₀ : List ℕ)
+    (es′ : List Layer) (c′ : List ℤ) (l′ : List ℕ) (r : FileAnswer) : Type 0 where
+  pub entries : es′ ≡ es ++ drop (length es) es₀
+  pub coords : c′ ≡ c ++ drop (length c) c₀
+  pub strips : l′ ≡ l ++ drop (length l) l₀
+  pub shown : r ≡ record { status = success; layers = length es; points = length c / 2; steps = length l }

@@ -2,7 +2,8 @@
 -- number, so equal numbers have equal faults. Assumes nothing.
 use mathlib.Core.Path.{_≡_, refl, sym, ap, _∙_}
 use mathlib.Core.List.{List, [], _∷_}
-use Prim.Native.Nat.{ℕ, _-_}
+use Prim.Native.Nat.{ℕ, _-_, _≤_}
+use native.Mathlib.Omega.{arith}
 use lib.ListN.{getD}
 use Rattle.fault.specs.declared.Fault.{Fault}
 use Rattle.fault.specs.declared.Fault.the-variants.{Shape, Few, Many, Range, Twin, Turn, Planes, Room, Strip, Below, Layers, Span, Text, Block, Check, Content}
@@ -36,3 +37,25 @@ read-back Content = refl
 
 pub numbers-differ : (f g : Fault) → numberOf f ≡ numberOf g → f ≡ g
 numbers-differ f g e = sym (read-back f) ∙ ap faultOf e ∙ read-back g
+
+-- none of them is 0, which says success
+pub number-some : (f : Fault) → numberOf f ≡ 0 → ⊥
+number-some f e = omega (arith, some f)
+  where
+    some : (f : Fault) → 1 ≤ numberOf f
+    some Shape = omega arith
+    some Few = omega arith
+    some Many = omega arith
+    some Range = omega arith
+    some Twin = omega arith
+    some Turn = omega arith
+    some Planes = omega arith
+    some Room = omega arith
+    some Strip = omega arith
+    some Below = omega arith
+    some Layers = omega arith
+    some Span = omega arith
+    some Text = omega arith
+    some Block = omega arith
+    some Check = omega arith
+    some Content = omega arith

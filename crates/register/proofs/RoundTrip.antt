@@ -160,6 +160,7 @@ read-is-written (read.ReadAnswer.held {es = es} {c = c} {l = l} h (read.HandedOv
     strips = s;
     same = open-then-seal-less (h .sound) (contents es c l) (h .stored .filler) (h .stored .short) (h .stored .here);
   };
+  room = i;
   fronts = refl;
   given = refl;
 }

@@ -11,7 +11,7 @@ use Rattle.stack.specs.Strips.{StripsRight}
 use Rattle.register.specs.declared.FileRead.{FileRead}
 use Rattle.register.specs.declared.ReadBack.the-variants as read-is
 use Rattle.register.specs.Contents.{registerFile}
-use Rattle.register.specs.Reading.{Lent, filled, found, lost, ReadAnswer}
+use Rattle.register.specs.Reading.{Lent, EnoughFor, filled, found, lost, ReadAnswer}
 
 -- f is the file of the accepted stack es over c with its strips l
 pub record FileOf (f : List ℕ) (es : List Layer) (c : List ℤ) (l : List ℕ) : Type 0 where
@@ -42,6 +42,7 @@ pub record WrittenFor (f : List ℕ) (x y : Lent) (r : FileRead) : Type 0 where
   pub c : List ℤ
   pub l : List ℕ
   pub file : FileOf f es c l
+  pub room : EnoughFor es c l x
   pub fronts : y ≡ filled c l x
   pub given : r ≡ found es c l
 

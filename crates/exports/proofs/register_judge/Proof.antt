@@ -1,10 +1,7 @@
--- `exports::register_judge` meets its contract: what the function that it calls answers is shown. Assumes nothing.
-use mathlib.Core.Path.{sym, ap, _∙_}
+-- `exports::register_judge` meets its contract: a refusal is shown with place 0. Assumes nothing.
+use mathlib.Core.Path.{refl, sym, ap}
 use mir.Syntax.{w64}
 use Rattle.whole.proofs.Machine.{read-back}
-use Prim.Native.Nat.{ℕ}
-use lib.IntN.{ℤ, pos}
-use Rattle.trace.specs.declared.Judgement.the-variants.{Fit}
 use Rattle.exports.specs.Shown.{judgedAs}
 use borrow.Author.Needs.{needs}
 use Rattle.exports.proofs.register_judge.Statement.{statement}
@@ -13,36 +10,47 @@ use Rattle.exports.proofs.register_judge.Tie as tie
 judge-requires : tie.Need-judge-requires
 judge-requires c κs = search needs
 
-enum-known-area : tie.Need-enum-known-area
-enum-known-area c = search needs
+enum-known-judged : tie.Need-enum-known-judged
+enum-known-judged c = search needs
 
-enum-known-fault : tie.Need-enum-known-fault
-enum-known-fault c = search needs
+enum-told : tie.Need-enum-told
+enum-told c = search needs
 
-number-requires : tie.Need-number-requires
-number-requires c κs = search needs
+refused-requires : tie.Need-refused-requires
+refused-requires c κs = search needs
+
+refused-requires-2 : tie.Need-refused-requires-2
+refused-requires-2 c κs = search needs
 
 returns : tie.Need-returns
-returns c = (
-  c .before .before .before .judge .result,
-  (
-    c .before .before .before .judge .ensures,
-    ap (λ (z : ℤ). judgedAs (Fit z (c .before .area .given .0 .1 .0))) (read-back w64 (c .before .area .given .0 .0) (c .known-told .given .0 .1))
-        ∙ sym (ap judgedAs (c .before .area .given .1)),
-  ),
-)
+returns c =
+    let judged = c .before .before .before .before .judge in
+    (judged .result, (judged .ensures, rw (c .refused2 .ensures, c .before .refused .ensures, c .before .before .enum-told .given .1) refl))
+
+succeeded-requires : tie.Need-succeeded-requires
+succeeded-requires c κs = search needs
 
 returns-2 : tie.Need-returns-2
-returns-2 c = (
-  c .before .before .before .before .judge .result,
-  (
-    c .before .before .before .before .judge .ensures,
-    ap (λ (k : ℕ). record { number = k; place = 0; area = pos 0; count = 0 }) (c .number .ensures)
-        ∙ sym (ap judgedAs (c .before .before .fault .given .1)),
-  ),
-)
+returns-2 c =
+    let judged = c .before .before .before .before .judge in
+    let given = c .before .before .judged .given in (
+      judged .result,
+      (
+        judged .ensures,
+        rw (c .succeeded .ensures, read-back w64 (given .0 .0) (c .before .known-told .given .0 .1))
+            (sym (ap judgedAs (given .1))),
+      ),
+    )
 
 pub register-judge-spec : {M : Type 1} → statement M
 register-judge-spec =
     tie.close
-    (tie.spec judge-requires enum-known-area enum-known-fault number-requires returns returns-2)
+    (tie.spec
+    judge-requires
+    enum-known-judged
+    enum-told
+    refused-requires
+    refused-requires-2
+    returns
+    succeeded-requires
+    returns-2)

@@ -1,6 +1,5 @@
 -- `exports::files::register_listing` meets its contract: what the function that it calls answers is shown. Assumes nothing.
-use mathlib.Core.Path.{sym, ap, _∙_}
-use Prim.Native.Nat.{ℕ}
+use mathlib.Core.Path.{sym, ap}
 use Rattle.exports.specs.Files.{listedAs}
 use borrow.Author.Needs.{needs}
 use Rattle.exports.proofs.files.register_listing.Statement.{statement}
@@ -12,19 +11,22 @@ listing-requires c κs = search needs
 enum-known-bytes : tie.Need-enum-known-bytes
 enum-known-bytes c = search needs
 
+succeeded-requires : tie.Need-succeeded-requires
+succeeded-requires c κs = search needs
+
 enum-known-refusal : tie.Need-enum-known-refusal
 enum-known-refusal c = search needs
 
-number-requires : tie.Need-number-requires
-number-requires c κs = search needs
+refused-requires : tie.Need-refused-requires
+refused-requires c κs = search needs
 
 same-length : tie.Need-same-length
 same-length c = search needs
 
 returns : tie.Need-returns
 returns c =
-    let called = c .before .before .before .before .before .listing in
-    (called .result, (called .ensures, sym (ap listedAs (c .before .bytes .given .1))))
+    let called = c .before .before .before .before .before .before .listing in
+    (called .result, (called .ensures, rw (c .succeeded .ensures) (sym (ap listedAs (c .before .before .bytes .given .1)))))
 
 same-length-2 : tie.Need-same-length-2
 same-length-2 c = search needs
@@ -32,14 +34,7 @@ same-length-2 c = search needs
 returns-2 : tie.Need-returns-2
 returns-2 c =
     let called = c .before .before .before .before .before .before .listing in
-    let refusal = c .before .before .refusal .given in (
-      called .result,
-      (
-        called .ensures,
-        ap (λ (k : ℕ). record { number = k; place = refusal .0 .0 .place; bytes = 0 }) (c .number .ensures)
-            ∙ sym (ap listedAs (refusal .1)),
-      ),
-    )
+    (called .result, (called .ensures, rw (c .refused .ensures) (sym (ap listedAs (c .before .before .refusal .given .1)))))
 
 pub register-listing-spec : {M : Type 1} → statement M
 register-listing-spec =
@@ -47,8 +42,9 @@ register-listing-spec =
     (tie.spec
     listing-requires
     enum-known-bytes
+    succeeded-requires
     enum-known-refusal
-    number-requires
+    refused-requires
     same-length
     returns
     same-length-2

@@ -1,15 +1,14 @@
 -- `exports::files::register_write` meets its contract: one of the functions that entries/proofs/Thin/TwoSharedOneMut.antt walks, over
 -- `file_written`. Assumes nothing.
-use mathlib.Core.Path.{_≡_}
-use mathlib.Core.List.{List, [], _∷_}
+use mathlib.Core.List.{[], _∷_}
 use contract.Running.{givenOf}
 use denote.Builtin.{u8, i32}
 use denote.Struct.Laws as LL
-use Rattle.stack.specs.declared.Layer.{Layer}
-use Rattle.stack.specs.Gathered.{Gathers}
-use Rattle.register.specs.declared.Written.{Written}
+use Rattle.stack.specs.Laid.{laid}
 use Rattle.register.specs.Writing.{WriteAnswer}
+use Rattle.exports.specs.Shown.{Shows}
 use Rattle.exports.specs.Files.{writtenAs}
+use Rattle.exports.proofs.Entries.{written-of}
 use Rattle.entries.proofs.Thin.TwoSharedOneMut.{Thin, proved}
 use Rattle.exports.proofs.files.BytesAnswer as S
 use Rattle.exports.proofs.files.BytesAnswer.Laws as S′
@@ -27,9 +26,9 @@ this = record {
   result = S.the-row;
   mir = S′.mir;
   callee = callee-def.name;
-  Said = λ st c l old new r. (x : Written) × (((es : List Layer) → Gathers st es → WriteAnswer es c l old new x) × (r ≡ writtenAs x));
-  Holds = λ es c l old new r. (x : Written) × (WriteAnswer es c l old new x × (r ≡ writtenAs x));
-  so = λ st es c l old new r g said. (said .0, (said .1 .0 es g, said .1 .1));
+  Said = λ st c l old new r. Shows (WriteAnswer (laid st) c l old new) writtenAs r;
+  Holds = λ es c l old new r. Shows (WriteAnswer es c l old new) writtenAs r;
+  so = λ st es c l old new r e said. (said .0, (written-of c l old new (said .0) st es e (said .1 .0), said .1 .1));
 }
 
 pub register-write-spec : {M : Type 1} → stated.statement M

@@ -1,15 +1,14 @@
 -- `exports::stacks::register_best_strips` meets its contract: one of the functions that entries/proofs/Thin/OneSharedTwoMut.antt walks, over
 -- `strips_filled`. Assumes nothing.
-use mathlib.Core.Path.{_≡_}
-use mathlib.Core.List.{List, [], _∷_}
+use mathlib.Core.List.{[], _∷_}
 use contract.Running.{givenOf}
 use denote.Builtin.{u8, i32}
 use denote.Struct.Laws as LL
-use Rattle.stack.specs.declared.Layer.{Layer}
-use Rattle.stack.specs.Gathered.{Gathers}
-use Rattle.bands.specs.declared.Banded.{Banded}
+use Rattle.stack.specs.Laid.{laid}
 use Rattle.bands.specs.Bands.{BandsAnswer}
+use Rattle.exports.specs.Shown.{Shows}
 use Rattle.exports.specs.Stacks.{bandedAs}
+use Rattle.exports.proofs.Entries.{banded-of}
 use Rattle.entries.proofs.Thin.OneSharedTwoMut.{Thin, proved}
 use Rattle.exports.proofs.stacks.StepsAnswer as S
 use Rattle.exports.proofs.stacks.StepsAnswer.Laws as S′
@@ -27,9 +26,9 @@ this = record {
   result = S.the-row;
   mir = S′.mir;
   callee = callee-def.name;
-  Said = λ st c l w l′ w′ r. (x : Banded) × (((es : List Layer) → Gathers st es → BandsAnswer es c l w l′ w′ x) × (r ≡ bandedAs x));
-  Holds = λ es c l w l′ w′ r. (x : Banded) × (BandsAnswer es c l w l′ w′ x × (r ≡ bandedAs x));
-  so = λ st es c l w l′ w′ r g said. (said .0, (said .1 .0 es g, said .1 .1));
+  Said = λ st c l w l′ w′ r. Shows (BandsAnswer (laid st) c l w l′ w′) bandedAs r;
+  Holds = λ es c l w l′ w′ r. Shows (BandsAnswer es c l w l′ w′) bandedAs r;
+  so = λ st es c l w l′ w′ r e said. (said .0, (banded-of c l w l′ w′ (said .0) st es e (said .1 .0), said .1 .1));
 }
 
 pub register-best-strips-spec : {M : Type 1} → stated.statement M

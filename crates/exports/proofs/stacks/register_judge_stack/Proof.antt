@@ -1,15 +1,14 @@
 -- `exports::stacks::register_judge_stack` meets its contract: one of the functions that entries/proofs/Thin/OneShared.antt walks, over
 -- `stack_judged`. Assumes nothing.
-use mathlib.Core.Path.{_≡_}
-use mathlib.Core.List.{List, [], _∷_}
+use mathlib.Core.List.{[], _∷_}
 use contract.Running.{givenOf}
 use denote.Builtin.{i32}
 use denote.Struct.Laws as LL
-use Rattle.stack.specs.declared.Layer.{Layer}
-use Rattle.stack.specs.Gathered.{Gathers}
-use Rattle.stack.specs.declared.StackJudgement.{StackJudgement}
+use Rattle.stack.specs.Laid.{laid}
 use Rattle.stack.specs.Faults.{StackJudged}
+use Rattle.exports.specs.Shown.{Shows}
 use Rattle.exports.specs.Stacks.{stackAs}
+use Rattle.exports.proofs.Entries.{judged-of}
 use Rattle.entries.proofs.Thin.OneShared.{Thin, proved}
 use Rattle.exports.proofs.stacks.StackAnswer as S
 use Rattle.exports.proofs.stacks.StackAnswer.Laws as S′
@@ -25,9 +24,9 @@ this = record {
   result = S.the-row;
   mir = S′.mir;
   callee = callee-def.name;
-  Said = λ st c r. (x : StackJudgement) × (((es : List Layer) → Gathers st es → StackJudged es c x) × (r ≡ stackAs x));
-  Holds = λ es c r. (x : StackJudgement) × (StackJudged es c x × (r ≡ stackAs x));
-  so = λ st es c r g said. (said .0, (said .1 .0 es g, said .1 .1));
+  Said = λ st c r. Shows (StackJudged (laid st) c) stackAs r;
+  Holds = λ es c r. Shows (StackJudged es c) stackAs r;
+  so = λ st es c r e said. (said .0, (judged-of c (said .0) st es e (said .1 .0), said .1 .1));
 }
 
 pub register-judge-stack-spec : {M : Type 1} → stated.statement M

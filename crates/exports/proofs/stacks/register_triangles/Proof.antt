@@ -1,15 +1,14 @@
 -- `exports::stacks::register_triangles` meets its contract: one of the functions that entries/proofs/Thin/TwoSharedOneMut.antt walks, over
 -- `list_closed`. Assumes nothing.
-use mathlib.Core.Path.{_≡_}
-use mathlib.Core.List.{List, [], _∷_}
+use mathlib.Core.List.{[], _∷_}
 use contract.Running.{givenOf}
 use denote.Builtin.{u8, u32, i32}
 use denote.Struct.Laws as LL
-use Rattle.stack.specs.declared.Layer.{Layer}
-use Rattle.stack.specs.Gathered.{Gathers}
-use Rattle.mesh.specs.declared.Meshed.{Meshed}
+use Rattle.stack.specs.Laid.{laid}
 use Rattle.mesh.specs.Meshing.{Triangled}
+use Rattle.exports.specs.Shown.{Shows}
 use Rattle.exports.specs.Stacks.{meshedAs}
+use Rattle.exports.proofs.Entries.{triangled-of}
 use Rattle.entries.proofs.Thin.TwoSharedOneMut.{Thin, proved}
 use Rattle.exports.proofs.stacks.MeshAnswer as S
 use Rattle.exports.proofs.stacks.MeshAnswer.Laws as S′
@@ -27,9 +26,9 @@ this = record {
   result = S.the-row;
   mir = S′.mir;
   callee = callee-def.name;
-  Said = λ st c l old new r. (x : Meshed) × (((es : List Layer) → Gathers st es → Triangled es c l old new x) × (r ≡ meshedAs x));
-  Holds = λ es c l old new r. (x : Meshed) × (Triangled es c l old new x × (r ≡ meshedAs x));
-  so = λ st es c l old new r g said. (said .0, (said .1 .0 es g, said .1 .1));
+  Said = λ st c l old new r. Shows (Triangled (laid st) c l old new) meshedAs r;
+  Holds = λ es c l old new r. Shows (Triangled es c l old new) meshedAs r;
+  so = λ st es c l old new r e said. (said .0, (triangled-of c l old new (said .0) st es e (said .1 .0), said .1 .1));
 }
 
 pub register-triangles-spec : {M : Type 1} → stated.statement M

@@ -1,15 +1,14 @@
 -- `exports::stacks::register_volume` meets its contract: one of the functions that entries/proofs/Thin/TwoShared.antt walks, over
 -- `volume_found`. Assumes nothing.
-use mathlib.Core.Path.{_≡_}
-use mathlib.Core.List.{List, [], _∷_}
+use mathlib.Core.List.{[], _∷_}
 use contract.Running.{givenOf}
 use denote.Builtin.{u8, i32}
 use denote.Struct.Laws as LL
-use Rattle.stack.specs.declared.Layer.{Layer}
-use Rattle.stack.specs.Gathered.{Gathers}
-use Rattle.mesh.specs.declared.Volumed.{Volumed}
+use Rattle.stack.specs.Laid.{laid}
 use Rattle.mesh.specs.Meshing.{Measured}
+use Rattle.exports.specs.Shown.{Shows}
 use Rattle.exports.specs.Stacks.{volumedAs}
+use Rattle.exports.proofs.Entries.{measured-of}
 use Rattle.entries.proofs.Thin.TwoShared.{Thin, proved}
 use Rattle.exports.proofs.Answer as S
 use Rattle.exports.proofs.Answer.Laws as S′
@@ -26,9 +25,9 @@ this = record {
   result = S.the-row;
   mir = S′.mir;
   callee = callee-def.name;
-  Said = λ st c l r. (x : Volumed) × (((es : List Layer) → Gathers st es → Measured es c l x) × (r ≡ volumedAs x));
-  Holds = λ es c l r. (x : Volumed) × (Measured es c l x × (r ≡ volumedAs x));
-  so = λ st es c l r g said. (said .0, (said .1 .0 es g, said .1 .1));
+  Said = λ st c l r. Shows (Measured (laid st) c l) volumedAs r;
+  Holds = λ es c l r. Shows (Measured es c l) volumedAs r;
+  so = λ st es c l r e said. (said .0, (measured-of c l (said .0) st es e (said .1 .0), said .1 .1));
 }
 
 pub register-volume-spec : {M : Type 1} → stated.statement M

@@ -1,6 +1,5 @@
 -- `exports::stacks::stack_judged` meets its contract: what the function that it calls answers is shown. Assumes nothing.
-use mathlib.Core.Path.{sym, ap, _∙_}
-use Prim.Native.Nat.{ℕ}
+use mathlib.Core.Path.{sym, ap}
 use Rattle.exports.specs.Stacks.{stackAs}
 use borrow.Author.Needs.{needs}
 use Rattle.exports.proofs.stacks.stack_judged.Statement.{statement}
@@ -12,28 +11,24 @@ judge-stack-requires c κs = search needs
 enum-known-points : tie.Need-enum-known-points
 enum-known-points c = search needs
 
+succeeded-requires : tie.Need-succeeded-requires
+succeeded-requires c κs = search needs
+
 enum-known-refusal : tie.Need-enum-known-refusal
 enum-known-refusal c = search needs
 
-number-requires : tie.Need-number-requires
-number-requires c κs = search needs
+refused-requires : tie.Need-refused-requires
+refused-requires c κs = search needs
 
 returns : tie.Need-returns
 returns c =
-    let called = c .before .before .before .judge-stack in
-    (called .result, (called .ensures, sym (ap stackAs (c .before .points .given .1))))
+    let called = c .before .before .before .before .judge-stack in
+    (called .result, (called .ensures, rw (c .succeeded .ensures) (sym (ap stackAs (c .before .before .points .given .1)))))
 
 returns-2 : tie.Need-returns-2
 returns-2 c =
     let called = c .before .before .before .before .judge-stack in
-    let refusal = c .before .before .refusal .given in (
-      called .result,
-      (
-        called .ensures,
-        ap (λ (k : ℕ). record { number = k; place = refusal .0 .0 .place; points = 0; steps = 0 }) (c .number .ensures)
-            ∙ sym (ap stackAs (refusal .1)),
-      ),
-    )
+    (called .result, (called .ensures, rw (c .refused .ensures) (sym (ap stackAs (c .before .before .refusal .given .1)))))
 
 pub stack-judged-spec : {M : Type 1} → statement M
 stack-judged-spec =
@@ -41,7 +36,8 @@ stack-judged-spec =
     (tie.spec
     judge-stack-requires
     enum-known-points
+    succeeded-requires
     enum-known-refusal
-    number-requires
+    refused-requires
     returns
     returns-2)

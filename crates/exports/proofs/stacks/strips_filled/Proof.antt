@@ -1,6 +1,5 @@
 -- `exports::stacks::strips_filled` meets its contract: what the function that it calls answers is shown. Assumes nothing.
-use mathlib.Core.Path.{sym, ap, _∙_}
-use Prim.Native.Nat.{ℕ}
+use mathlib.Core.Path.{sym, ap}
 use Rattle.exports.specs.Stacks.{bandedAs}
 use borrow.Author.Needs.{needs}
 use Rattle.exports.proofs.stacks.strips_filled.Statement.{statement}
@@ -12,11 +11,14 @@ best-strips-requires c κs = search needs
 enum-known-steps : tie.Need-enum-known-steps
 enum-known-steps c = search needs
 
+succeeded-requires : tie.Need-succeeded-requires
+succeeded-requires c κs = search needs
+
 enum-known-refusal : tie.Need-enum-known-refusal
 enum-known-refusal c = search needs
 
-number-requires : tie.Need-number-requires
-number-requires c κs = search needs
+refused-requires : tie.Need-refused-requires
+refused-requires c κs = search needs
 
 same-length : tie.Need-same-length
 same-length c = search needs
@@ -26,8 +28,8 @@ same-length-2 c = search needs
 
 returns : tie.Need-returns
 returns c =
-    let called = c .before .before .before .before .before .before .before .best-strips in
-    (called .result, (called .ensures, sym (ap bandedAs (c .before .steps .given .1))))
+    let called = c .before .before .before .before .before .before .before .before .best-strips in
+    (called .result, (called .ensures, rw (c .succeeded .ensures) (sym (ap bandedAs (c .before .before .steps .given .1)))))
 
 same-length-3 : tie.Need-same-length-3
 same-length-3 c = search needs
@@ -38,14 +40,7 @@ same-length-4 c = search needs
 returns-2 : tie.Need-returns-2
 returns-2 c =
     let called = c .before .before .before .before .before .before .before .before .best-strips in
-    let refusal = c .before .before .refusal .given in (
-      called .result,
-      (
-        called .ensures,
-        ap (λ (k : ℕ). record { number = k; place = refusal .0 .0 .place; steps = 0 }) (c .number .ensures)
-            ∙ sym (ap bandedAs (refusal .1)),
-      ),
-    )
+    (called .result, (called .ensures, rw (c .refused .ensures) (sym (ap bandedAs (c .before .before .refusal .given .1)))))
 
 pub strips-filled-spec : {M : Type 1} → statement M
 strips-filled-spec =
@@ -53,8 +48,9 @@ strips-filled-spec =
     (tie.spec
     best-strips-requires
     enum-known-steps
+    succeeded-requires
     enum-known-refusal
-    number-requires
+    refused-requires
     same-length
     same-length-2
     returns
