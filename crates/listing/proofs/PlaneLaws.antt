@@ -3,7 +3,7 @@
 use mathlib.Core.Path.{_≡_, subst}
 use mathlib.Core.Bool.{true, false}
 use mathlib.Core.List.{List}
-use Prim.Native.Nat.{ℕ, _*_, _≤_, _<_}
+use Prim.Native.Nat.{ℕ, _*_, _%_, _≤_, _<_}
 use native.Mathlib.Omega.{arith}
 use lib.IntN.{ℤ}
 use lib.ListN.{length, take}
@@ -14,7 +14,7 @@ use Rattle.fault.specs.declared.Fault.the-variants.{Many}
 use Rattle.trace.specs.declared.Judgement.{Judgement}
 use Rattle.trace.specs.declared.Judgement.the-variants.{Unfit}
 use Rattle.trace.specs.Points.{count}
-use Rattle.trace.specs.Faults.{IsShape, IsFew, Given}
+use Rattle.trace.specs.Faults.{Given}
 use Rattle.trace.specs.Judged.{inRange}
 use Rattle.trace.proofs.Exact.{many}
 use Rattle.trace.proofs.PointLaws.{range-within, within-range}
@@ -28,13 +28,13 @@ unfolding count
 held-count h = omega (arith, h .counted)
 
 pub held-many : {c kept : List ℤ} {m : ℕ} → Held c m kept → 250 < m → Given c (Unfit Many)
-held-many {c} {kept} {m} h k = many even enough (record { many = omega (arith, held-count h) })
+held-many {c} {kept} {m} h k = many even enough (omega (arith, held-count h))
   where
-    even : IsShape c → ⊥
-    even s = omega (arith, s .odd, h .counted)
+    even : length c % 2 ≡ 1 → ⊥
+    even s = omega (arith, h .counted)
 
-    enough : IsFew c → ⊥
-    enough f = omega (arith, f .few, held-count h)
+    enough : count c < 3 → ⊥
+    enough f = omega (arith, held-count h)
 
 pub held-short : {c kept : List ℤ} {m : ℕ} → Held c m kept → m ≤ 250 → length kept < 2 * m → ⊥
 held-short h k l = omega (arith, h .here k .0)

@@ -54,7 +54,7 @@ trace-fault-number {es} {c} {k} s h t = number (traceOf-even c (entry es k) (spa
     named e = ap (λ (r : Refusal). numberOf (r .fault)) e
 
     stopped : {t : List ℤ} (f : Fault) → length t % 2 ≡ 0 → Stopped (traceGates t) (at f 0) → (2 ≤ numberOf f) × (numberOf f ≤ 6)
-    stopped f e (inl x) = omega (arith, x .1 .odd)
+    stopped f e (inl x) = omega (arith, x .1)
     stopped f e (inr (_, inl x)) = omega (arith, named (x .0))
     stopped f e (inr (_, inr (_, inl x))) = omega (arith, named (x .0))
     stopped f e (inr (_, inr (_, inr (_, inl x)))) = omega (arith, named (x .0))

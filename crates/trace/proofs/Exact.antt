@@ -10,7 +10,7 @@ use native.Mathlib.Omega.{arith}
 use lib.Dec.{eqb, ltb}
 use lib.IntN.{ℤ, pos}
 use lib.ListN.{length, getD}
-use lib.Signed.{leZ}
+use lib.Signed.{_≤ℤ_, leZ}
 use borrow.Author.Tests.{eqb-true, eqb-false, ltb-true, ltb-false, eq-eqb, ne-eqb, lt-ltb, not-true}
 use Rattle.whole.specs.Between.{Within}
 use Rattle.whole.specs.Tests.{some, eqZ}
@@ -24,7 +24,7 @@ use Rattle.fault.specs.declared.Fault.the-variants.{Shape, Few, Many, Range, Tw
 use Rattle.trace.specs.declared.Judgement.{Judgement}
 use Rattle.trace.specs.declared.Judgement.the-variants.{Fit, Unfit}
 use Rattle.trace.specs.Points.{count, px, py, twiceArea}
-use Rattle.trace.specs.Faults.{IsShape, IsFew, IsMany, IsRange, IsTwin, IsTurn, Accepted, traceGates, Given, unfit, fit}
+use Rattle.trace.specs.Faults.{IsRange, IsTwin, Accepted, traceGates, Given, unfit, fit}
 use Rattle.trace.specs.Judged.{inRange, outAt, twinAt, verdictOf, judged}
 use Rattle.trace.proofs.PointLaws.{out-within, range-within, within-range}
 
@@ -57,6 +57,19 @@ apart-all c e k h p q =
     true≢false (sym (ap₂ _&&_ (eq-eqZ (px c k) (px c (k + 1)) p) (eq-eqZ (py c k) (py c (k + 1)) q)) ∙ some-none (count c) (twinAt c) e k h)
 
 -- ---- the cases, one by one
+
+-- the conditions of 1, 2, 3 and 6
+abbrev IsShape : List ℤ → Type 0
+IsShape c = length c % 2 ≡ 1
+
+abbrev IsFew : List ℤ → Type 0
+IsFew c = count c < 3
+
+abbrev IsMany : List ℤ → Type 0
+IsMany c = 250 < count c
+
+abbrev IsTurn : List ℤ → Type 0
+IsTurn c = twiceArea c ≤ℤ pos 0
 
 module _ {c : List ℤ} where
   shape : IsShape c → Given c (Unfit Shape)
@@ -92,7 +105,7 @@ verdict-given c ns ev nf en nm le =
     go false o true w t _ = twin ns nf nm (λ r. r .outside (in-all c o (r .at) (r .here))) (twin-is c w)
     go false o false w true t =
         turn ns nf nm (λ r. r .outside (in-all c o (r .at) (r .here))) (λ r. apart-all c w (r .at) (r .here) (r .sameX) (r .sameY))
-        (record { turn = leZ-true (twiceArea c) (pos 0) t })
+        (leZ-true (twiceArea c) (pos 0) t)
     go false o false w false t = fit (record {
       even = ev;
       enough = en;
@@ -113,29 +126,29 @@ judged-given c = go (eqb (length c % 2) 1) refl (ltb (count c) 3) refl (ltb 250 
     go : (s : Bool) → eqb (length c % 2) 1 ≡ s → (f : Bool) → ltb (count c) 3 ≡ f → (m : Bool) → ltb 250 (count c) ≡ m
         → Given c (cond s (Unfit Shape) (cond f (Unfit Few) (cond m (Unfit Many)
         (verdictOf (some (length c) (outAt c)) (some (count c) (twinAt c)) (twiceArea c) (count c)))))
-    go true s f _ m _ = shape (record { odd = eqb-true (length c % 2) 1 s })
-    go false s true f m _ = few (λ r. eqb-false (length c % 2) 1 s (r .odd)) (record { few = ltb-true (count c) 3 f })
+    go true s f _ m _ = shape (eqb-true (length c % 2) 1 s)
+    go false s true f m _ = few (λ r. eqb-false (length c % 2) 1 s (r)) (ltb-true (count c) 3 f)
     go false s false f true m =
-        many (λ r. eqb-false (length c % 2) 1 s (r .odd)) (λ r. omega (arith, ltb-false (count c) 3 f, r .few))
-        (record { many = ltb-true 250 (count c) m })
+        many (λ r. eqb-false (length c % 2) 1 s (r)) (λ r. omega (arith, ltb-false (count c) 3 f, r))
+        (ltb-true 250 (count c) m)
     go false s false f false m =
-        verdict-given c (λ r. eqb-false (length c % 2) 1 s (r .odd)) (even-of (length c) (eqb-false (length c % 2) 1 s))
-        (λ r. omega (arith, ltb-false (count c) 3 f, r .few)) (ltb-false (count c) 3 f)
-        (λ r. omega (arith, ltb-false 250 (count c) m, r .many)) (ltb-false 250 (count c) m)
+        verdict-given c (λ r. eqb-false (length c % 2) 1 s (r)) (even-of (length c) (eqb-false (length c % 2) 1 s))
+        (λ r. omega (arith, ltb-false (count c) 3 f, r)) (ltb-false (count c) 3 f)
+        (λ r. omega (arith, ltb-false 250 (count c) m, r)) (ltb-false 250 (count c) m)
 
 -- ---- from 01's cases to the computation
 
 named : {f g : Fault} → at f 0 ≡ at g 0 → Unfit f ≡ Unfit g
 named e = ap (λ (r : Refusal). Unfit (r .fault)) e
 
-no-shape : {c : List ℤ} → ¬ IsShape c → eqb (length c % 2) 1 ≡ false
-no-shape {c} n = ne-eqb (length c % 2) 1 (λ e. n (record { odd = e }))
+no-shape : (c : List ℤ) → ¬ IsShape c → eqb (length c % 2) 1 ≡ false
+no-shape c n = ne-eqb (length c % 2) 1 (λ e. n e)
 
-no-few : {c : List ℤ} → ¬ IsFew c → ltb (count c) 3 ≡ false
-no-few {c} n = not-true-false (ltb (count c) 3) (λ e. n (record { few = ltb-true (count c) 3 e }))
+no-few : (c : List ℤ) → ¬ IsFew c → ltb (count c) 3 ≡ false
+no-few c n = not-true-false (ltb (count c) 3) (λ e. n (ltb-true (count c) 3 e))
 
-no-many : {c : List ℤ} → ¬ IsMany c → ltb 250 (count c) ≡ false
-no-many {c} n = not-true-false (ltb 250 (count c)) (λ e. n (record { many = ltb-true 250 (count c) e }))
+no-many : (c : List ℤ) → ¬ IsMany c → ltb 250 (count c) ≡ false
+no-many c n = not-true-false (ltb 250 (count c)) (λ e. n (ltb-true 250 (count c) e))
 
 no-range : {c : List ℤ} → ¬ IsRange c → some (length c) (outAt c) ≡ false
 no-range {c} n = not-true-false (some (length c) (outAt c)) (λ e. n (out-range c e))
@@ -166,12 +179,12 @@ pub record Faultless (c : List ℤ) : Type 0 where
 
 pub accepted-faultless : {c : List ℤ} → Accepted c → Faultless c
 accepted-faultless {c} a = record {
-  noShape = λ r. omega (arith, r .odd, a .even);
-  noFew = λ r. omega (arith, r .few, a .enough);
-  noMany = λ r. omega (arith, r .many, a .notMany);
+  noShape = λ r. omega (arith, r, a .even);
+  noFew = λ r. omega (arith, r, a .enough);
+  noMany = λ r. omega (arith, r, a .notMany);
   noRange = λ r. r .outside (a .inRange (r .at) (r .here));
   noTwin = λ r. a .apart (r .at) (r .here) (r .sameX) (r .sameY);
-  noTurn = λ r. clash (a .turns) (r .turn);
+  noTurn = λ r. clash (a .turns) r;
 }
 
 -- a gate that is open says that its fault is not there
@@ -181,17 +194,17 @@ absent {f} o x = o (at f 0) (refl, x)
 -- the fault of the first gate that stops is the one that is computed
 stopped-judged : {c : List ℤ} (f : Fault) → Stopped (traceGates c) (at f 0) → Unfit f ≡ judged c
 unfolding judged verdictOf
-stopped-judged {c} f (inl x) = named (x .0) ∙ rw (eq-eqb (length c % 2) 1 (x .1 .odd))
-stopped-judged {c} f (inr (ns, inl x)) = named (x .0) ∙ rw (no-shape (absent ns), lt-ltb (count c) 3 (x .1 .few))
+stopped-judged {c} f (inl x) = named (x .0) ∙ rw (eq-eqb (length c % 2) 1 (x .1))
+stopped-judged {c} f (inr (ns, inl x)) = named (x .0) ∙ rw (no-shape c (absent ns), lt-ltb (count c) 3 (x .1))
 stopped-judged {c} f (inr (ns, inr (nf, inl x))) =
-    named (x .0) ∙ rw (no-shape (absent ns), no-few (absent nf), lt-ltb 250 (count c) (x .1 .many))
+    named (x .0) ∙ rw (no-shape c (absent ns), no-few c (absent nf), lt-ltb 250 (count c) (x .1))
 stopped-judged {c} f (inr (ns, inr (nf, inr (nm, inl x)))) =
-    named (x .0) ∙ rw (no-shape (absent ns), no-few (absent nf), no-many (absent nm), range-yes (x .1))
+    named (x .0) ∙ rw (no-shape c (absent ns), no-few c (absent nf), no-many c (absent nm), range-yes (x .1))
 stopped-judged {c} f (inr (ns, inr (nf, inr (nm, inr (nr, inl x))))) =
-    named (x .0) ∙ rw (no-shape (absent ns), no-few (absent nf), no-many (absent nm), no-range (absent nr), twin-yes (x .1))
+    named (x .0) ∙ rw (no-shape c (absent ns), no-few c (absent nf), no-many c (absent nm), no-range (absent nr), twin-yes (x .1))
 stopped-judged {c} f (inr (ns, inr (nf, inr (nm, inr (nr, inr (nw, inl x)))))) =
     named (x .0)
-    ∙ rw (no-shape (absent ns), no-few (absent nf), no-many (absent nm), no-range (absent nr), no-twin (absent nw), le-leZ (x .1 .turn))
+    ∙ rw (no-shape c (absent ns), no-few c (absent nf), no-many c (absent nm), no-range (absent nr), no-twin (absent nw), le-leZ (x .1))
 stopped-judged {c} f (inr (ns, inr (nf, inr (nm, inr (nr, inr (nw, inr (nt, x))))))) = absurd x
 
 -- what 01 gives is the judgement that is computed
@@ -200,7 +213,7 @@ unfolding judged verdictOf
 given-judged {c} (unfit {f} s) = stopped-judged f s
 given-judged {c} (fit a) =
     let f : Faultless c = accepted-faultless a in
-    rw (no-shape (f .noShape), no-few (f .noFew), no-many (f .noMany), no-range (f .noRange), no-twin (f .noTwin), lt-leZ (a .turns))
+    rw (no-shape c (f .noShape), no-few c (f .noFew), no-many c (f .noMany), no-range (f .noRange), no-twin (f .noTwin), lt-leZ (a .turns))
 
 -- ---- the theorems
 

@@ -13,18 +13,6 @@ use Rattle.trace.specs.declared.Judgement.{Judgement}
 use Rattle.trace.specs.declared.Judgement.the-variants.{Fit, Unfit}
 use Rattle.trace.specs.Points.{count, px, py, twiceArea}
 
--- 1: odd number of coordinates
-pub record IsShape (c : List ℤ) : Type 0 where
-  pub odd : length c % 2 ≡ 1
-
--- 2: under 3 points
-pub record IsFew (c : List ℤ) : Type 0 where
-  pub few : count c < 3
-
--- 3: over 250
-pub record IsMany (c : List ℤ) : Type 0 where
-  pub many : 250 < count c
-
 -- 4: a coordinate outside its range, "from -100,000 to 100,000"
 pub record IsRange (c : List ℤ) : Type 0 where
   pub at : ℕ
@@ -38,10 +26,6 @@ pub record IsTwin (c : List ℤ) : Type 0 where
   pub sameX : px c at ≡ px c (at + 1)
   pub sameY : py c at ≡ py c (at + 1)
 
--- 6: twice the area is 0 or less
-pub record IsTurn (c : List ℤ) : Type 0 where
-  pub turn : twiceArea c ≤ℤ pos 0
-
 -- an accepted trace: "A trace has 3 to 250 points, x then y .. Neighbours (last and first too) must differ .. Twice its signed
 -- area .. must exceed zero."
 pub record Accepted (c : List ℤ) : Type 0 where
@@ -52,11 +36,12 @@ pub record Accepted (c : List ℤ) : Type 0 where
   pub apart : (k : ℕ) → k < count c → px c k ≡ px c (k + 1) → py c k ≡ py c (k + 1) → ⊥
   pub turns : pos 0 <ℤ twiceArea c
 
--- 01's order, 1 to 6; a trace that is judged alone has place 0
+-- 01's order: 1, odd number of coordinates; 2, under 3 points; 3, over 250; 4; 5; 6, twice the area is 0 or less. A trace that is judged
+-- alone has place 0.
 abbrev pub traceGates : List ℤ → List Gate
 traceGates c =
-    due Shape 0 (IsShape c) ∷ due Few 0 (IsFew c) ∷ due Many 0 (IsMany c) ∷ due Range 0 (IsRange c) ∷ due Twin 0 (IsTwin c)
-    ∷ due Turn 0 (IsTurn c) ∷ []
+    due Shape 0 (length c % 2 ≡ 1) ∷ due Few 0 (count c < 3) ∷ due Many 0 (250 < count c) ∷ due Range 0 (IsRange c) ∷ due Twin 0 (IsTwin c)
+    ∷ due Turn 0 (twiceArea c ≤ℤ pos 0) ∷ []
 
 -- each fault is given exactly when it is there and no earlier one is, and "fit" when none is
 pub data Given (c : List ℤ) : Judgement → Type 0 where
