@@ -1,5 +1,4 @@
 pub mod CellLaws
-pub mod CopyLaws
 pub mod OutlineLaws
 pub mod ChoiceLaws
 pub mod RowLaws

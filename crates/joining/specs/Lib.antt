@@ -1,7 +1,6 @@
 -- The best strips between two traces.
 pub mod Cells
 pub mod Table
-pub mod Copies
 pub mod Walking
 pub mod Answers
 pub mod Listing

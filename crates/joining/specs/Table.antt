@@ -1,4 +1,4 @@
--- Inner: the table of 001's (12), from wrapped copies of the points and segments of both traces.
+-- Inner: the table of 001's (12), from the outlines of both traces.
 use mathlib.Core.Path.{_≡_}
 use mathlib.Core.List.{List}
 use Prim.Native.Nat.{ℕ, _+_, _*_, _≤_, _<_}
@@ -7,18 +7,13 @@ use lib.IntN.{ℤ, pos, _+ℤ_, _-ℤ_, _*ℤ_}
 use lib.Signed.{leZ}
 use mir.Val.{boolByte}
 use Rattle.whole.specs.Between.{Within}
+use Rattle.trace.specs.declared.outline.Outline.{Outline}
 use Rattle.ways.specs.Value.{Worths}
 use Rattle.ways.specs.Keppel.{top, pointer, alsoB, maxℤ}
 use Rattle.joining.specs.declared.choice.Choice.{Choice}
 use Rattle.joining.specs.Cells.{cellOf, room, Put}
 
--- a trace's points, the first written again at the end, and its segments
-pub record Outline : Type 0 where
-  pub x : List ℤ
-  pub y : List ℤ
-  pub dx : List ℤ
-  pub dy : List ℤ
-
+-- an outline of these arrays
 abbrev pub outline : List ℤ → List ℤ → List ℤ → List ℤ → Outline
 outline x y dx dy = record { x = x; y = y; dx = dx; dy = dy }
 

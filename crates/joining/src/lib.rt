@@ -1,6 +1,5 @@
 // The best strips between two traces: the first, the next, and a run of them.
 mod choice;
-mod copies;
 mod lines;
 mod marks;
 mod table;
@@ -18,8 +17,6 @@ ghost use Rattle.joining.specs.Table.{Tabled};
 ghost use Rattle.joining.specs.Listing.{ListAnswer};
 ghost use Rattle.joining.specs.Walking.{Marked, Turned};
 ghost use Rattle.joining.specs.Answers.{Enough, BestAnswer, NextAnswer, workBytes};
-use crate::copies::differences;
-use crate::copies::wrapped;
 use crate::lines::some_lines;
 use crate::marks::clear;
 use crate::table::fill;
@@ -33,6 +30,7 @@ use fault::refuse;
 use strip::Valued;
 use strip::judge_strip;
 use trace::Judgement;
+use trace::outline::outline_of;
 
 // The next strip's value, "none left", or a refusal.
 pub enum Followed {
@@ -56,14 +54,16 @@ fn mark_all(a: &[i32], b: &[i32], m: usize, n: usize, work: &mut [u8]) -> i64
     requires { ⌜ PairCounts (now a) (now b) m n × (room (workBytes (now a) (now b)) ≤ length (now work)) ⌝ }
     ensures { λ r. ⌜ Tabled (worths (now (a .entry)) (now (b .entry))) m n (now (work .entry)) (now (work .exit)) r ⌝ }
 {
-    let ax = wrapped(a, m, 0);
-    let ay = wrapped(a, m, 1);
-    let bx = wrapped(b, n, 0);
-    let by = wrapped(b, n, 1);
-    let adx = differences(&ax, m);
-    let ady = differences(&ay, m);
-    let bdx = differences(&bx, n);
-    let bdy = differences(&by, n);
+    let lower = outline_of(a);
+    let upper = outline_of(b);
+    let ax = lower.x;
+    let ay = lower.y;
+    let adx = lower.dx;
+    let ady = lower.dy;
+    let bx = upper.x;
+    let by = upper.y;
+    let bdx = upper.dx;
+    let bdy = upper.dy;
     fill(work, m, n, &ax, &ay, &adx, &ady, &bx, &by, &bdx, &bdy)
 }
 

@@ -2,3 +2,4 @@
 pub mod PointLaws
 pub mod Exact
 mod Along
+pub mod OutlineLaws

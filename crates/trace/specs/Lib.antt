@@ -5,3 +5,4 @@ pub mod Judged
 pub mod Walk
 pub mod Refused
 pub mod Status
+pub mod Outline

@@ -1,4 +1,6 @@
-// The judgement of one trace: 01, "Traces and layers" and faults 1 to 6 of "What comes back".
+// The judgement of one trace: 01, "Traces and layers" and faults 1 to 6 of "What comes back". And its outline.
+pub mod outline;
+
 ghost use mathlib.Core.Path.{_≡_};
 ghost use mathlib.Core.Bool.{true, false};
 ghost use Prim.Native.Nat.{_+_, _*_, _≤_, _<_};

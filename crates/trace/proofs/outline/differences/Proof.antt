@@ -1,4 +1,4 @@
--- `joining::copies::differences` meets its contract: two numbers within 100,000 differ by at most 200,000. Assumes nothing.
+-- `trace::outline::differences` meets its contract: two numbers within 100,000 differ by at most 200,000. Assumes nothing.
 use mathlib.Core.Path.{refl}
 use Prim.Native.Nat.{_+_, _-_}
 use borrow.Author.Needs.{needs}
@@ -6,9 +6,9 @@ use lib.IntN.{pos, _-ℤ_}
 use lib.ListN.{getD}
 use mir.Syntax.{w32}
 use Rattle.whole.proofs.Machine.{held, from, minus, fits-holds}
-use Rattle.joining.proofs.CopyLaws.{CopySo, copy-begun, copy-more, differences-done}
-use Rattle.joining.proofs.copies.differences.Statement.{statement}
-use Rattle.joining.proofs.copies.differences.Tie as tie
+use Rattle.trace.proofs.OutlineLaws.{CopySo, copy-begun, copy-more, copy-done}
+use Rattle.trace.proofs.outline.differences.Statement.{statement}
+use Rattle.trace.proofs.outline.differences.Tie as tie
 
 abbrev Inv-loop : tie.InvT-loop
 Inv-loop numbers m copy₀ k₀ copy k =
@@ -61,7 +61,7 @@ loop-again c =
     (held w32 (minus (held w32 (from refl (near (k + 1))) tt) (held w32 (from refl (near k)) tt)) tt .is)
 
 returns : tie.Need-returns Inv-loop μ-loop
-returns c = differences-done (c .before .before .args .numbers .now) (c .before .before .args .m) _ _ (c .loop-test .left) (c .before .loop .inv)
+returns c = copy-done (c .loop-test .left) (c .before .loop .inv)
 
 pub differences-spec : {M : Type 1} → statement M
 differences-spec =
