@@ -12,8 +12,7 @@ use Rattle.whole.specs.Between.{Within}
 use Rattle.whole.proofs.Machine.{held, from, passed, plus, minus, times}
 use Rattle.ways.specs.Keppel.{maxℤ}
 use Rattle.joining.specs.declared.choice.Choice.{Choice}
-use Rattle.trace.specs.declared.outline.Outline.{Outline}
-use Rattle.joining.specs.Table.{Bounded, Small, along, Chosen}
+use Rattle.joining.specs.Table.{Arrays, Bounded, Small, along, Chosen}
 
 pub bool-byte : (t : Bool) → boolByte t ≤ 1
 bool-byte true = omega arith
@@ -40,8 +39,8 @@ along-is s q =
     q ∙ plus (held w64 (from refl (s .value)) tt)
     (minus (times (held w32 (from refl (s .x)) tt) (held w32 (from refl (s .dy)) tt)) (times (held w32 (from refl (s .y)) tt) (held w32 (from refl (s .dx)) tt))) .is
 
--- a value, a point of one outline and a segment of the other
-pub step-small : {v : ℤ} {p q : Outline} → Within 1000000000000000 v → Bounded p → Bounded q → (i j : ℕ)
+-- a value, a point of one arrays and a segment of the other
+pub step-small : {v : ℤ} {p q : Arrays} → Within 1000000000000000 v → Bounded p → Bounded q → (i j : ℕ)
     → Small v (getD (p .x) i (pos 0)) (getD (p .y) i (pos 0)) (getD (q .dx) j (pos 0)) (getD (q .dy) j (pos 0))
 step-small h b d i j = record { value = h; x = b .x i; y = b .y i; dx = d .dx j; dy = d .dy j }
 

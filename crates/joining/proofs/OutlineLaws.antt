@@ -16,14 +16,18 @@ use Rattle.trace.proofs.OutlineLaws.{fairly-same, follows-within}
 use Rattle.strip.specs.Worth.{worthA, worthB, worths}
 use Rattle.ways.specs.Value.{Worths}
 use Rattle.ways.proofs.TopLaws.{Agree, top-agree, pointer-agree, alsoB-agree}
-use Rattle.joining.specs.Table.{worthsOf, Bounded, markOf, Tabled}
+use Rattle.joining.specs.Table.{Arrays, arrays, worthsOf, Bounded, markOf, Tabled}
 
 -- ---- a trace
 
 pub accepted-outline : {c : List ℤ} {p : Outline} → Accepted c → Outlined (fairly c) p → Outlined c p
 accepted-outline {p = p} a o = subst (λ (l : List ℤ). Outlined l p) (fairly-same a) o
 
-pub outline-bounded : {c : List ℤ} {p : Outline} → Accepted c → Outlined c p → Bounded p
+-- its arrays
+abbrev arraysOf : Outline → Arrays
+arraysOf p = arrays (p .x) (p .y) (p .dx) (p .dy)
+
+pub outline-bounded : {c : List ℤ} {p : Outline} → Accepted c → Outlined c p → Bounded (arraysOf p)
 outline-bounded a o = record {
   x = follows-within (o .x) (accepted-x a);
   y = follows-within (o .y) (accepted-y a);
@@ -33,7 +37,7 @@ outline-bounded a o = record {
 
 -- ---- two traces
 
-pub outlines-agree : {a b : List ℤ} {p q : Outline} → Outlined a p → Outlined b q → Agree (worthsOf p q) (worths a b) (count a) (count b)
+pub outlines-agree : {a b : List ℤ} {p q : Outline} → Outlined a p → Outlined b q → Agree (worthsOf (arraysOf p) (arraysOf q)) (worths a b) (count a) (count b)
 unfolding worthA worthB
 outlines-agree o u = record {
   onA = λ i j h k.

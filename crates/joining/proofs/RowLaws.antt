@@ -18,12 +18,11 @@ use Rattle.ways.specs.Keppel.{top, pointer, alsoB, maxℤ}
 use Rattle.ways.proofs.TopLaws.{top-left, top-cell, pointer-cell, alsoB-cell, pointer-left, alsoB-left, top-within}
 use Rattle.joining.specs.Cells.{cellOf, room, Put}
 use Rattle.joining.proofs.CellLaws.{room-fits}
-use Rattle.trace.specs.declared.outline.Outline.{Outline}
-use Rattle.joining.specs.Table.{worthsOf, Bounded, markOf, CellReady, CellDone, RowAt, RowMarked, Ready}
+use Rattle.joining.specs.Table.{Arrays, worthsOf, Bounded, markOf, CellReady, CellDone, RowAt, RowMarked, Ready}
 
 -- ---- the table's values are far inside an i64
 
-pub values-within : {p q : Outline} → Bounded p → Bounded q → (i j : ℕ) → i ≤ 250 → j ≤ 250
+pub values-within : {p q : Arrays} → Bounded p → Bounded q → (i j : ℕ) → i ≤ 250 → j ≤ 250
     → Within 1000000000000000 (top (worthsOf p q) i j)
 values-within {p} {q} b d i j h k =
     between-wider (omega arith) (omega arith)
@@ -77,7 +76,7 @@ row-begun w i n at row v work work′ h r e p = record {
         ∙ mark-cell w (i + 1) 0 true false (sym (pointer-left w i)) (sym (alsoB-left w (i + 1))) ∙ ap (markOf w (i + 1)) (sym q)
 
 -- what the next pair asks
-pub row-ready : (p q : Outline) (i n at j : ℕ) (row : List ℤ) (work₀ work : List ℕ) → Ready p q (i + 1) n work₀
+pub row-ready : (p q : Arrays) (i n at j : ℕ) (row : List ℤ) (work₀ work : List ℕ) → Ready p q (i + 1) n work₀
     → at ≡ (i + 1) * (n + 1) → RowSo (worthsOf p q) i n at j row work₀ work → j < n → CellReady p q i j at row work
 row-ready p q i n at j row work₀ work r e s h = record {
   bounded = r .bounded;
@@ -93,7 +92,7 @@ row-ready p q i n at j row work₀ work r e s h = record {
 }
 
 -- one pair more
-pub row-more : (p q : Outline) (i n at j : ℕ) (row : List ℤ) (work₀ work : List ℕ) (row′ : List ℤ) (work′ : List ℕ) → n ≤ 250
+pub row-more : (p q : Arrays) (i n at j : ℕ) (row : List ℤ) (work₀ work : List ℕ) (row′ : List ℤ) (work′ : List ℕ) → n ≤ 250
     → RowSo (worthsOf p q) i n at j row work₀ work → j < n → CellDone p q i j at row work row′ work′
     → RowSo (worthsOf p q) i n at (j + 1) row′ work₀ work′
 row-more p q i n at j row work₀ work row′ work′ few s h d = record {
@@ -147,13 +146,13 @@ row-done w i n at row work work₁ work′ e p s = (
 )
 
 -- a value of the row above
-pub row-within : (p q : Outline) (i n j : ℕ) (row : List ℤ) (work : List ℕ) → Ready p q (i + 1) n work → RowAt (worthsOf p q) i n row → j ≤ n
+pub row-within : (p q : Arrays) (i n j : ℕ) (row : List ℤ) (work : List ℕ) → Ready p q (i + 1) n work → RowAt (worthsOf p q) i n row → j ≤ n
     → Within 1000000000000000 (getD row j (pos 0))
 row-within p q i n j row work r a h =
     subst (Within 1000000000000000) (sym (a .values j h))
     (values-within (r .bounded) (r .bounded′) i j (omega (arith, r .fewA)) (omega (arith, r .fewB)))
 
-pub ready-put : {p q : Outline} {m n : ℕ} {work work′ : List ℕ} {k mark : ℕ} → Ready p q m n work → Put work k mark work′ → Ready p q m n work′
+pub ready-put : {p q : Arrays} {m n : ℕ} {work work′ : List ℕ} {k mark : ℕ} → Ready p q m n work → Put work k mark work′ → Ready p q m n work′
 ready-put r p = record {
   bounded = r .bounded;
   bounded′ = r .bounded′;

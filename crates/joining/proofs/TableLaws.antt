@@ -16,8 +16,7 @@ use Rattle.ways.specs.Value.{Worths}
 use Rattle.ways.specs.Keppel.{top, pointer, alsoB}
 use Rattle.ways.proofs.TopLaws.{Agree, top-agree, top-origin, top-first, pointer-first, alsoB-left, alsoB-first}
 use Rattle.joining.specs.Cells.{cellOf, room, Put}
-use Rattle.trace.specs.declared.outline.Outline.{Outline}
-use Rattle.joining.specs.Table.{outline, worthsOf, markOf, cellAt, BorderReady, BorderDone, RowAt, RowMarked, Ready, Tabled}
+use Rattle.joining.specs.Table.{Arrays, arrays, worthsOf, markOf, cellAt, BorderReady, BorderDone, RowAt, RowMarked, Ready, Tabled}
 use Rattle.joining.proofs.CellLaws.{room-fits}
 use Rattle.joining.proofs.RowLaws.{values-within, mark-cell}
 
@@ -49,7 +48,7 @@ first-begun w n row work work′ e p = record {
     mark : (k : ℕ) → k ≡ 0 → cellOf work′ k ≡ markOf w 0 k
     mark k q = ap (cellOf work′) q ∙ p .here ∙ mark-cell w 0 0 false false (sym (pointer-first w 0)) (sym (alsoB-left w 0)) ∙ ap (markOf w 0) (sym q)
 
-pub first-ready : (p q : Outline) (n j : ℕ) (row : List ℤ) (work₀ work : List ℕ) → Ready p q 0 n work₀
+pub first-ready : (p q : Arrays) (n j : ℕ) (row : List ℤ) (work₀ work : List ℕ) → Ready p q 0 n work₀
     → FirstSo (worthsOf p q) n j row work₀ work → j < n → BorderReady p q j row work
 first-ready p q n j row work₀ work r s h = record {
   bounded = r .bounded;
@@ -60,7 +59,7 @@ first-ready p q n j row work₀ work r s h = record {
       (values-within (r .bounded) (r .bounded′) 0 j (omega arith) (omega (arith, r .fewB)));
 }
 
-pub first-more : (p q : Outline) (n j : ℕ) (row : List ℤ) (work₀ work : List ℕ) (row′ : List ℤ) (work′ : List ℕ) → n ≤ 250
+pub first-more : (p q : Arrays) (n j : ℕ) (row : List ℤ) (work₀ work : List ℕ) (row′ : List ℤ) (work′ : List ℕ) → n ≤ 250
     → FirstSo (worthsOf p q) n j row work₀ work → j < n → BorderDone p q j row work row′ work′
     → FirstSo (worthsOf p q) n (j + 1) row′ work₀ work′
 first-more p q n j row work₀ work row′ work′ few s h d = record {
@@ -117,9 +116,9 @@ pub record TableSo (w : Worths) (m n i : ℕ) (row : List ℤ) (work₀ work : L
   pub rest : drop (room ((m + 1) * (n + 1))) work ≡ drop (room ((m + 1) * (n + 1))) work₀
 
 -- the first row needs only A's first point and B's segments
-pub first-whole : (p q : Outline) (m n : ℕ) (row : List ℤ) (work work′ : List ℕ)
-    → RowAt (worthsOf (outline (p .x) (p .y) [] []) (outline [] [] (q .dx) (q .dy))) 0 n row
-    → RowMarked (worthsOf (outline (p .x) (p .y) [] []) (outline [] [] (q .dx) (q .dy))) 0 n work work′
+pub first-whole : (p q : Arrays) (m n : ℕ) (row : List ℤ) (work work′ : List ℕ)
+    → RowAt (worthsOf (arrays (p .x) (p .y) [] []) (arrays [] [] (q .dx) (q .dy))) 0 n row
+    → RowMarked (worthsOf (arrays (p .x) (p .y) [] []) (arrays [] [] (q .dx) (q .dy))) 0 n work work′
     → TableSo (worthsOf p q) m n 0 row work′ work′
 unfolding markOf pointer alsoB
 first-whole p q m n row work work′ r s = record {
@@ -131,7 +130,7 @@ first-whole p q m n row work work′ r s = record {
 }
   where
     v : Worths
-    v = worthsOf (outline (p .x) (p .y) [] []) (outline [] [] (q .dx) (q .dy))
+    v = worthsOf (arrays (p .x) (p .y) [] []) (arrays [] [] (q .dx) (q .dy))
 
     same : Agree v (worthsOf p q) 0 n
     same = record { onA = λ i j h l. absurd (none i h); onB = λ i j h l. refl }
@@ -174,8 +173,8 @@ table-done w m n i row work work₁ work′ v h d s e = record {
 
 -- ---- what the rows ask
 
-pub ready-first : (p q : Outline) (m n : ℕ) (work : List ℕ) → Ready p q m n work
-    → Ready (outline (p .x) (p .y) [] []) (outline [] [] (q .dx) (q .dy)) 0 n work
+pub ready-first : (p q : Arrays) (m n : ℕ) (work : List ℕ) → Ready p q m n work
+    → Ready (arrays (p .x) (p .y) [] []) (arrays [] [] (q .dx) (q .dy)) 0 n work
 ready-first p q m n work r = record {
   bounded = record { x = r .bounded .x; y = r .bounded .y; dx = λ k. zero-within 200000; dy = λ k. zero-within 200000 };
   bounded′ = record { x = λ k. zero-within 100000; y = λ k. zero-within 100000; dx = r .bounded′ .dx; dy = r .bounded′ .dy };
@@ -184,7 +183,7 @@ ready-first p q m n work r = record {
   enough = room-fits {b = (m + 1) * (n + 1)} (omega arith) (r .enough);
 }
 
-pub ready-row : (p q : Outline) (m n i : ℕ) (work work′ : List ℕ) → Ready p q m n work → length work′ ≡ length work → i < m
+pub ready-row : (p q : Arrays) (m n i : ℕ) (work work′ : List ℕ) → Ready p q m n work → length work′ ≡ length work → i < m
     → Ready p q (i + 1) n work′
 ready-row p q m n i work work′ r e h = record {
   bounded = r .bounded;

@@ -7,25 +7,30 @@ use lib.IntN.{ℤ, pos, _+ℤ_, _-ℤ_, _*ℤ_}
 use lib.Signed.{leZ}
 use mir.Val.{boolByte}
 use Rattle.whole.specs.Between.{Within}
-use Rattle.trace.specs.declared.outline.Outline.{Outline}
 use Rattle.ways.specs.Value.{Worths}
 use Rattle.ways.specs.Keppel.{top, pointer, alsoB, maxℤ}
 use Rattle.joining.specs.declared.choice.Choice.{Choice}
 use Rattle.joining.specs.Cells.{cellOf, room, Put}
 
--- an outline of these arrays
-abbrev pub outline : List ℤ → List ℤ → List ℤ → List ℤ → Outline
-outline x y dx dy = record { x = x; y = y; dx = dx; dy = dy }
+-- the arrays of an outline: a trace's points, the first written again at the end, and its segments
+pub record Arrays : Type 0 where
+  pub x : List ℤ
+  pub y : List ℤ
+  pub dx : List ℤ
+  pub dy : List ℤ
+
+abbrev pub arrays : List ℤ → List ℤ → List ℤ → List ℤ → Arrays
+arrays x y dx dy = record { x = x; y = y; dx = dx; dy = dy }
 
 -- the worths that two outlines give: the other side's point with the own segment
-abbrev pub worthsOf : Outline → Outline → Worths
+abbrev pub worthsOf : Arrays → Arrays → Worths
 worthsOf p q = record {
   worthA = λ i j. getD (q .x) j (pos 0) *ℤ getD (p .dy) i (pos 0) -ℤ getD (q .y) j (pos 0) *ℤ getD (p .dx) i (pos 0);
   worthB = λ i j. getD (p .x) i (pos 0) *ℤ getD (q .dy) j (pos 0) -ℤ getD (p .y) i (pos 0) *ℤ getD (q .dx) j (pos 0);
 }
 
 -- points within 100,000 of zero, segments within 200,000
-pub record Bounded (p : Outline) : Type 0 where
+pub record Bounded (p : Arrays) : Type 0 where
   pub x : (k : ℕ) → Within 100000 (getD (p .x) k (pos 0))
   pub y : (k : ℕ) → Within 100000 (getD (p .y) k (pos 0))
   pub dx : (k : ℕ) → Within 200000 (getD (p .dx) k (pos 0))
@@ -57,7 +62,7 @@ pub record Chosen (va vb : ℤ) (c : Choice) : Type 0 where
   pub mark : c .mark ≡ boolByte (leZ vb va) + 2 * boolByte (leZ va vb)
 
 -- what one pair asks: where it is, and values and numbers that cannot overflow
-pub record CellReady (p q : Outline) (i j at : ℕ) (row : List ℤ) (work : List ℕ) : Type 0 where
+pub record CellReady (p q : Arrays) (i j at : ℕ) (row : List ℤ) (work : List ℕ) : Type 0 where
   pub bounded : Bounded p
   pub bounded′ : Bounded q
   pub inI : i + 1 < 251
@@ -68,21 +73,21 @@ pub record CellReady (p q : Outline) (i j at : ℕ) (row : List ℤ) (work : Lis
   pub left : Within 1000000000000000 (getD row j (pos 0))
 
 -- the pair (i+1, j+1), from the row above at j+1 and the row's own value at j
-pub record CellDone (p q : Outline) (i j at : ℕ) (row : List ℤ) (work : List ℕ) (row′ : List ℤ) (work′ : List ℕ) : Type 0 where
+pub record CellDone (p q : Arrays) (i j at : ℕ) (row : List ℤ) (work : List ℕ) (row′ : List ℤ) (work′ : List ℕ) : Type 0 where
   pub choice : Choice
   pub chosen : Chosen (getD row (j + 1) (pos 0) +ℤ worthsOf p q .worthA i (j + 1)) (getD row j (pos 0) +ℤ worthsOf p q .worthB (i + 1) j) choice
   pub stored : row′ ≡ set row (j + 1) (choice .best)
   pub put : Put work (at + (j + 1)) (choice .mark) work′
 
 -- the pair (0, j+1), which can be reached by B alone
-pub record BorderReady (p q : Outline) (j : ℕ) (row : List ℤ) (work : List ℕ) : Type 0 where
+pub record BorderReady (p q : Arrays) (j : ℕ) (row : List ℤ) (work : List ℕ) : Type 0 where
   pub bounded : Bounded p
   pub bounded′ : Bounded q
   pub inJ : j + 1 < 251
   pub inWork : room (j + 1 + 1) ≤ length work
   pub left : Within 1000000000000000 (getD row j (pos 0))
 
-pub record BorderDone (p q : Outline) (j : ℕ) (row : List ℤ) (work : List ℕ) (row′ : List ℤ) (work′ : List ℕ) : Type 0 where
+pub record BorderDone (p q : Arrays) (j : ℕ) (row : List ℤ) (work : List ℕ) (row′ : List ℤ) (work′ : List ℕ) : Type 0 where
   pub stored : row′ ≡ set row (j + 1) (getD row j (pos 0) +ℤ worthsOf p q .worthB 0 j)
   pub put : Put work (j + 1) 2 work′
 
@@ -91,7 +96,7 @@ pub record RowAt (w : Worths) (i n : ℕ) (row : List ℤ) : Type 0 where
   pub long : length row ≡ 251
   pub values : (j : ℕ) → j ≤ n → getD row j (pos 0) ≡ top w i j
 
-pub record Ready (p q : Outline) (m n : ℕ) (work : List ℕ) : Type 0 where
+pub record Ready (p q : Arrays) (m n : ℕ) (work : List ℕ) : Type 0 where
   pub bounded : Bounded p
   pub bounded′ : Bounded q
   pub fewA : m ≤ 250

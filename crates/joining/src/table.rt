@@ -7,7 +7,7 @@ ghost use mathlib.Core.Path.{_≡_};
 ghost use mathlib.Core.List.{[]};
 ghost use lib.IntN.{pos};
 ghost use lib.ListN.{length, getD};
-ghost use Rattle.joining.specs.Table.{Small, along, outline, worthsOf, CellReady, CellDone, BorderReady, BorderDone, RowAt, RowMarked, Ready, Tabled};
+ghost use Rattle.joining.specs.Table.{Small, along, arrays, worthsOf, CellReady, CellDone, BorderReady, BorderDone, RowAt, RowMarked, Ready, Tabled};
 use crate::choice::choose;
 use crate::choice::via;
 use crate::marks::put_mark;
@@ -44,8 +44,8 @@ fn cell(
     bdx: &[i32; 251],
     bdy: &[i32; 251],
 )
-    requires { ⌜ CellReady (outline (now ax) (now ay) (now adx) (now ady)) (outline (now bx) (now by) (now bdx) (now bdy)) i j at (now row) (now work) ⌝ }
-    ensures { λ _. ⌜ CellDone (outline (now (ax .entry)) (now (ay .entry)) (now (adx .entry)) (now (ady .entry))) (outline (now (bx .entry)) (now (by .entry)) (now (bdx .entry)) (now (bdy .entry))) i j at (now (row .entry)) (now (work .entry)) (now (row .exit)) (now (work .exit)) ⌝ }
+    requires { ⌜ CellReady (arrays (now ax) (now ay) (now adx) (now ady)) (arrays (now bx) (now by) (now bdx) (now bdy)) i j at (now row) (now work) ⌝ }
+    ensures { λ _. ⌜ CellDone (arrays (now (ax .entry)) (now (ay .entry)) (now (adx .entry)) (now (ady .entry))) (arrays (now (bx .entry)) (now (by .entry)) (now (bdx .entry)) (now (bdy .entry))) i j at (now (row .entry)) (now (work .entry)) (now (row .exit)) (now (work .exit)) ⌝ }
 {
     let here = j + 1;
     let by_a = by_step_a(row, here, bx, by, adx[i], ady[i]);
@@ -66,8 +66,8 @@ fn border(
     bdx: &[i32; 251],
     bdy: &[i32; 251],
 )
-    requires { ⌜ BorderReady (outline (now ax) (now ay) [] []) (outline [] [] (now bdx) (now bdy)) j (now row) (now work) ⌝ }
-    ensures { λ _. ⌜ BorderDone (outline (now (ax .entry)) (now (ay .entry)) [] []) (outline [] [] (now (bdx .entry)) (now (bdy .entry))) j (now (row .entry)) (now (work .entry)) (now (row .exit)) (now (work .exit)) ⌝ }
+    requires { ⌜ BorderReady (arrays (now ax) (now ay) [] []) (arrays [] [] (now bdx) (now bdy)) j (now row) (now work) ⌝ }
+    ensures { λ _. ⌜ BorderDone (arrays (now (ax .entry)) (now (ay .entry)) [] []) (arrays [] [] (now (bdx .entry)) (now (bdy .entry))) j (now (row .entry)) (now (work .entry)) (now (row .exit)) (now (work .exit)) ⌝ }
 {
     let next = by_step_b(row, j, ax[0], ay[0], bdx, bdy);
     row[j + 1] = next;
@@ -84,8 +84,8 @@ fn first_row(
     bdx: &[i32; 251],
     bdy: &[i32; 251],
 )
-    requires { ⌜ (Ready (outline (now ax) (now ay) [] []) (outline [] [] (now bdx) (now bdy)) 0 n (now work)) × (length (now row) ≡ 251) ⌝ }
-    ensures { λ _. ⌜ (RowAt (worthsOf (outline (now (ax .entry)) (now (ay .entry)) [] []) (outline [] [] (now (bdx .entry)) (now (bdy .entry)))) 0 n (now (row .exit))) × (RowMarked (worthsOf (outline (now (ax .entry)) (now (ay .entry)) [] []) (outline [] [] (now (bdx .entry)) (now (bdy .entry)))) 0 n (now (work .entry)) (now (work .exit))) ⌝ }
+    requires { ⌜ (Ready (arrays (now ax) (now ay) [] []) (arrays [] [] (now bdx) (now bdy)) 0 n (now work)) × (length (now row) ≡ 251) ⌝ }
+    ensures { λ _. ⌜ (RowAt (worthsOf (arrays (now (ax .entry)) (now (ay .entry)) [] []) (arrays [] [] (now (bdx .entry)) (now (bdy .entry)))) 0 n (now (row .exit))) × (RowMarked (worthsOf (arrays (now (ax .entry)) (now (ay .entry)) [] []) (arrays [] [] (now (bdx .entry)) (now (bdy .entry)))) 0 n (now (work .entry)) (now (work .exit))) ⌝ }
 {
     row[0] = 0;
     put_mark(work, 0, 0);
@@ -111,8 +111,8 @@ fn next_row(
     bdx: &[i32; 251],
     bdy: &[i32; 251],
 )
-    requires { ⌜ (Ready (outline (now ax) (now ay) (now adx) (now ady)) (outline (now bx) (now by) (now bdx) (now bdy)) (i + 1) n (now work)) × (RowAt (worthsOf (outline (now ax) (now ay) (now adx) (now ady)) (outline (now bx) (now by) (now bdx) (now bdy))) i n (now row)) ⌝ }
-    ensures { λ _. ⌜ (RowAt (worthsOf (outline (now (ax .entry)) (now (ay .entry)) (now (adx .entry)) (now (ady .entry))) (outline (now (bx .entry)) (now (by .entry)) (now (bdx .entry)) (now (bdy .entry)))) (i + 1) n (now (row .exit))) × (RowMarked (worthsOf (outline (now (ax .entry)) (now (ay .entry)) (now (adx .entry)) (now (ady .entry))) (outline (now (bx .entry)) (now (by .entry)) (now (bdx .entry)) (now (bdy .entry)))) (i + 1) n (now (work .entry)) (now (work .exit))) ⌝ }
+    requires { ⌜ (Ready (arrays (now ax) (now ay) (now adx) (now ady)) (arrays (now bx) (now by) (now bdx) (now bdy)) (i + 1) n (now work)) × (RowAt (worthsOf (arrays (now ax) (now ay) (now adx) (now ady)) (arrays (now bx) (now by) (now bdx) (now bdy))) i n (now row)) ⌝ }
+    ensures { λ _. ⌜ (RowAt (worthsOf (arrays (now (ax .entry)) (now (ay .entry)) (now (adx .entry)) (now (ady .entry))) (arrays (now (bx .entry)) (now (by .entry)) (now (bdx .entry)) (now (bdy .entry)))) (i + 1) n (now (row .exit))) × (RowMarked (worthsOf (arrays (now (ax .entry)) (now (ay .entry)) (now (adx .entry)) (now (ady .entry))) (arrays (now (bx .entry)) (now (by .entry)) (now (bdx .entry)) (now (bdy .entry)))) (i + 1) n (now (work .entry)) (now (work .exit))) ⌝ }
 {
     let at = (i + 1) * (n + 1);
     let start = by_step_a(row, 0, bx, by, adx[i], ady[i]);
@@ -139,8 +139,8 @@ pub(crate) fn fill(
     bdx: &[i32; 251],
     bdy: &[i32; 251],
 ) -> i64
-    requires { ⌜ Ready (outline (now ax) (now ay) (now adx) (now ady)) (outline (now bx) (now by) (now bdx) (now bdy)) m n (now work) ⌝ }
-    ensures { λ r. ⌜ Tabled (worthsOf (outline (now (ax .entry)) (now (ay .entry)) (now (adx .entry)) (now (ady .entry))) (outline (now (bx .entry)) (now (by .entry)) (now (bdx .entry)) (now (bdy .entry)))) m n (now (work .entry)) (now (work .exit)) r ⌝ }
+    requires { ⌜ Ready (arrays (now ax) (now ay) (now adx) (now ady)) (arrays (now bx) (now by) (now bdx) (now bdy)) m n (now work) ⌝ }
+    ensures { λ r. ⌜ Tabled (worthsOf (arrays (now (ax .entry)) (now (ay .entry)) (now (adx .entry)) (now (ady .entry))) (arrays (now (bx .entry)) (now (by .entry)) (now (bdx .entry)) (now (bdy .entry)))) m n (now (work .entry)) (now (work .exit)) r ⌝ }
 {
     let mut row = [0i64; 251];
     first_row(&mut row, work, n, ax, ay, bdx, bdy);

@@ -1,94 +1,103 @@
--- One step, as the machine takes it: the points that it reads are in range, what it gains is the step's worth and leaves the sum
--- far inside an i64, and by which byte it came to what. Step B of a pair is step A of the pair exchanged. Assumes nothing.
-use mathlib.Core.Path.{_≡_, refl, ap₂, _∙_}
-use mathlib.Core.Bool.{true, false}
-use mathlib.Core.List.{List}
+-- One step, as the machine takes it: what it gains is the step's worth and leaves the sum far inside an i64, and by which byte it came to what.
+-- Assumes nothing.
+use mathlib.Core.Path.{_≡_, refl, ap₂}
+use mathlib.Core.Bool.{Bool, true, false, cond}
+use mathlib.Core.List.{List, [], _∷_}
 use Prim.Native.Nat.{ℕ, _+_, _≤_, _<_}
 use native.Mathlib.Omega.{arith}
+use lib.Dec.{eqb}
 use lib.IntN.{ℤ, _+ℤ_, _-ℤ_, _*ℤ_}
 use mir.Syntax.{w64}
 use mir.Val.{toZ, ofZ}
 use Rattle.whole.specs.Between.{Within}
+use Rattle.whole.proofs.Bounds.{between-sub, between-mul}
 use Rattle.whole.proofs.Machine.{Holds, held, from, plus}
-use Rattle.ways.specs.Strip.{A, B, stepsA, stepsB}
-use Rattle.trace.specs.Faults.{Accepted}
-use Rattle.strip.specs.Pair.{Pair, PairCounts}
-use Rattle.trace.proofs.PointLaws.{accepted-x, accepted-y}
-use Rattle.strip.specs.declared.Point.{Point}
+use Rattle.ways.specs.Strip.{Step, A, B, stepsA, stepsB}
+use Rattle.trace.specs.Points.{count}
+use Rattle.trace.specs.declared.outline.Outline.{Outline}
+use Rattle.trace.specs.Outline.{Outlined, Ranged}
+use Rattle.trace.proofs.OutlineLaws.{follows-within}
 use Rattle.strip.specs.declared.Walked.{Walked}
-use Rattle.strip.specs.Worth.{worthA, worthB}
-use Rattle.strip.specs.Walk.{PointIs, Fair, wayWorth, Stepped, by, full}
-use Rattle.strip.proofs.WorthLaws.{turn-within, worthA-within, worthB-within}
-
--- ---- points, and what the way between two is worth
-
-pub fair : {c : List ℤ} {k : ℕ} {p : Point} → Accepted c → PointIs c k p → Fair p
-fair {k = k} a q = record { x = rw (q .x) (accepted-x a k); y = rw (q .y) (accepted-y a k) }
-
-pub way-within : {own other : List ℤ} → Pair own other → (from to k : ℕ) → Within 40000000000 (wayWorth own from to other k)
-unfolding wayWorth
-way-within f from to k =
-    turn-within (accepted-x (f .upper) k) (accepted-y (f .upper) k)
-    (accepted-y (f .lower) to) (accepted-y (f .lower) from) (accepted-x (f .lower) to) (accepted-x (f .lower) from)
-
--- read off three points
-pub read-way : {own other : List ℤ} {from to k : ℕ} {o p q : Point} {v : ℤ} → PointIs other k o → PointIs own from p → PointIs own to q
-    → v ≡ o .x *ℤ (q .y -ℤ p .y) -ℤ o .y *ℤ (q .x -ℤ p .x) → v ≡ wayWorth own from to other k
-unfolding wayWorth
-read-way o p q e =
-    e
-    ∙ ap₂ _-ℤ_
-    (ap₂ _*ℤ_ (o .x) (ap₂ _-ℤ_ (q .y) (p .y)))
-    (ap₂ _*ℤ_ (o .y) (ap₂ _-ℤ_ (q .x) (p .x)))
+use Rattle.strip.specs.Arrays.{Arrays, arrays, worthsOf}
+use Rattle.strip.specs.Bytes.{byteOf}
+use Rattle.strip.specs.Worth.{worthA, worthB, worths}
+use Rattle.strip.specs.Walk.{worthOf, gainOf, Stepped, by, full}
 
 -- ---- what a step gains
 
-pub turned : {a b : List ℤ} {m n : ℕ} → PairCounts a b m n → PairCounts b a n m
-turned f = record { pair = record { lower = f .pair .upper; upper = f .pair .lower }; countA = f .countB; countB = f .countA }
+-- the arrays of an outline
+abbrev pub arraysOf : Outline → Arrays
+arraysOf p = arrays (p .x) (p .y) (p .dx) (p .dy)
 
-pub gained-lower : {a b : List ℤ} {v : ℤ} → Pair a b → (i j : ℕ) → v ≡ wayWorth a i (i + 1) b j
-    → Holds 40000000000 40000000000 v (worthA a b i j)
-unfolding wayWorth worthA
-gained-lower p i j e = from e (worthA-within p i j)
+module _ {a b : List ℤ} {p q : Outline} (o : Outlined a p) (u : Outlined b q) where
+  -- inside the grid the outlines give 01's worths
+  pub outline-A : (i j : ℕ) → i < count a → j ≤ count b → worthsOf (arraysOf p) (arraysOf q) .worthA i j ≡ worthA a b i j
+  unfolding worthA
+  outline-A i j h k =
+      ap₂ _-ℤ_ (ap₂ _*ℤ_ (u .x .done j (omega arith)) (o .dy .done i h)) (ap₂ _*ℤ_ (u .y .done j (omega arith)) (o .dx .done i h))
 
-pub gained-upper : {a b : List ℤ} {v : ℤ} → Pair a b → (i j : ℕ) → v ≡ wayWorth b j (j + 1) a i
-    → Holds 40000000000 40000000000 v (worthB a b i j)
-unfolding wayWorth worthB
-gained-upper p i j e = from e (worthB-within p i j)
+  pub outline-B : (i j : ℕ) → i ≤ count a → j < count b → worthsOf (arraysOf p) (arraysOf q) .worthB i j ≡ worthB a b i j
+  unfolding worthB
+  outline-B i j h k =
+      ap₂ _-ℤ_ (ap₂ _*ℤ_ (o .x .done i (omega arith)) (u .dy .done j k)) (ap₂ _*ℤ_ (o .y .done i (omega arith)) (u .dx .done j k))
 
--- the machine's sum of what it has for z and v, where v is w
-abbrev pub Sum : ℤ → ℤ → ℤ → Type 0
-Sum z v w = Holds 20040000000000 20040000000000 (toZ w64 (ofZ w64 z) +ℤ toZ w64 (ofZ w64 v)) (z +ℤ w)
+  -- what a step that there is room for gains
+  pub gains : (x : Step) (i j : ℕ) → i + stepsA (x ∷ []) ≤ count a → j + stepsB (x ∷ []) ≤ count b
+      → gainOf (byteOf x) i j (arraysOf p) (arraysOf q) ≡ worthOf (worths a b) x i j
+  unfolding gainOf stepsA stepsB
+  gains A i j h k = outline-A i j (omega arith) (omega arith)
+  gains B i j h k = outline-B i j (omega arith) (omega arith)
 
-pub added : {z v w : ℤ} → Within 20000000000000 z → Holds 40000000000 40000000000 v w → Sum z v w
-added b h = plus (held w64 (from refl b) tt) (held w64 h tt)
+-- whatever pair it starts from, a step gains at most so much: what an outline holds is bounded everywhere
+module _ {a b : List ℤ} {p q : Outline} (ra : Ranged a) (rb : Ranged b) (o : Outlined a p) (u : Outlined b q) where
+  pub gain-within : (byte i j : ℕ) → Within 40000000000 (gainOf byte i j (arraysOf p) (arraysOf q))
+  unfolding gainOf
+  gain-within byte i j = go (eqb byte 0)
+    where
+      segment : {f : ℕ → ℤ} → ((k : ℕ) → Within 100000 (f k)) → (k : ℕ) → Within 200000 (f (k + 1) -ℤ f k)
+      segment w k = between-sub (w (k + 1)) (w k)
+
+      go : (t : Bool) → Within 40000000000 (cond t (worthsOf (arraysOf p) (arraysOf q) .worthA i j) (worthsOf (arraysOf p) (arraysOf q) .worthB i j))
+      go true =
+          between-sub (between-mul (follows-within (u .x) (rb .x) j) (follows-within (o .dy) (segment (ra .y)) i))
+          (between-mul (follows-within (u .y) (rb .y) j) (follows-within (o .dx) (segment (ra .x)) i))
+      go false =
+          between-sub (between-mul (follows-within (o .x) (ra .x) i) (follows-within (u .dy) (segment (rb .y)) j))
+          (between-mul (follows-within (o .y) (ra .y) i) (follows-within (u .dx) (segment (rb .x)) j))
+
+-- the machine's sum of what it has for z and v
+abbrev pub Sum : ℤ → ℤ → Type 0
+Sum z v = Holds 20040000000000 20040000000000 (toZ w64 (ofZ w64 z) +ℤ toZ w64 (ofZ w64 v)) (z +ℤ v)
+
+pub added : {z v : ℤ} → Within 20000000000000 z → Within 40000000000 v → Sum z v
+added b h = plus (held w64 (from refl b) tt) (held w64 (from refl h) tt)
 
 -- ---- by which byte
 
-module _ {a b : List ℤ} {m n byte : ℕ} {s r : Walked} (f : PairCounts a b m n) (ok : s .ok ≡ true) where
-  pub full-lower : byte ≡ 0 → r .ok ≡ false → s .i ≡ m → Stepped a b s byte r
+module _ {m n byte : ℕ} {gain : ℤ} {s r : Walked} (ok : s .ok ≡ true) where
+  pub full-lower : byte ≡ 0 → r .ok ≡ false → s .i ≡ m → Stepped m n gain s byte r
   unfolding stepsA
-  full-lower z n e = rw z (full A ok n (λ q. omega (arith, q .inA, e, f .countA)))
+  full-lower z n e = rw z (full A ok n (λ q. omega (arith, q .inA, e)))
 
-  pub full-upper : byte ≡ 1 → r .ok ≡ false → s .j ≡ n → Stepped a b s byte r
+  pub full-upper : byte ≡ 1 → r .ok ≡ false → s .j ≡ n → Stepped m n gain s byte r
   unfolding stepsB
-  full-upper z n e = rw z (full B ok n (λ q. omega (arith, q .inB, e, f .countB)))
+  full-upper z n e = rw z (full B ok n (λ q. omega (arith, q .inB, e)))
 
   pub by-lower : byte ≡ 0 → r .ok ≡ true → s .i < m → s .j ≤ n → r .i ≡ s .i + 1 → r .j ≡ s .j
-      → r .value ≡ s .value +ℤ worthA a b (s .i) (s .j) → Stepped a b s byte r
+      → r .value ≡ s .value +ℤ gain → Stepped m n gain s byte r
   unfolding stepsA stepsB
   by-lower z y h k ei ej ev = rw z (by A {r = r} ok y (record {
-    room = record { inA = omega (arith, f .countA); inB = omega (arith, f .countB) };
+    room = record { inA = omega arith; inB = omega arith };
     i = ei;
     j = omega arith;
     value = ev;
   }))
 
   pub by-upper : byte ≡ 1 → r .ok ≡ true → s .i ≤ m → s .j < n → r .i ≡ s .i → r .j ≡ s .j + 1
-      → r .value ≡ s .value +ℤ worthB a b (s .i) (s .j) → Stepped a b s byte r
+      → r .value ≡ s .value +ℤ gain → Stepped m n gain s byte r
   unfolding stepsA stepsB
   by-upper z y h k ei ej ev = rw z (by B {r = r} ok y (record {
-    room = record { inA = omega (arith, f .countA); inB = omega (arith, f .countB) };
+    room = record { inA = omega arith; inB = omega arith };
     i = omega arith;
     j = ej;
     value = ev;

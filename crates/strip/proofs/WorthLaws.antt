@@ -6,28 +6,22 @@ use Prim.Native.Nat.{ℕ, _+_}
 use lib.IntN.{ℤ, _-ℤ_, _*ℤ_}
 use Rattle.whole.specs.Between.{Within}
 use Rattle.whole.proofs.Bounds.{between-sub, between-mul}
-use Rattle.trace.specs.Faults.{Accepted}
-use Rattle.strip.specs.Pair.{Pair}
-use Rattle.trace.proofs.PointLaws.{accepted-x, accepted-y}
+use Rattle.trace.specs.Outline.{Ranged}
 use Rattle.strip.specs.Worth.{worthA, worthB}
 
 -- the cross of a point and of the way from one point to another
-pub turn-within : {x y p q r s : ℤ} → Within 100000 x → Within 100000 y → Within 100000 p → Within 100000 q → Within 100000 r
+turn-within : {x y p q r s : ℤ} → Within 100000 x → Within 100000 y → Within 100000 p → Within 100000 q → Within 100000 r
     → Within 100000 s → Within 40000000000 (x *ℤ (p -ℤ q) -ℤ y *ℤ (r -ℤ s))
 turn-within bx by bp bq br bs = between-sub (between-mul bx (between-sub bp bq)) (between-mul by (between-sub br bs))
 
 -- exchanged, A's steps are B's
-pub exchanged : (a b : List ℤ) (i j : ℕ) → worthB a b i j ≡ worthA b a j i
+exchanged : (a b : List ℤ) (i j : ℕ) → worthB a b i j ≡ worthA b a j i
 unfolding worthA worthB
 exchanged a b i j = refl
 
-own-within : {a b : List ℤ} → Accepted a → Accepted b → (i j : ℕ) → Within 40000000000 (worthA a b i j)
+pub worthA-within : {a b : List ℤ} → Ranged a → Ranged b → (i j : ℕ) → Within 40000000000 (worthA a b i j)
 unfolding worthA
-own-within a b i j =
-    turn-within (accepted-x b j) (accepted-y b j) (accepted-y a (i + 1)) (accepted-y a i) (accepted-x a (i + 1)) (accepted-x a i)
+worthA-within a b i j = turn-within (b .x j) (b .y j) (a .y (i + 1)) (a .y i) (a .x (i + 1)) (a .x i)
 
-pub worthA-within : {a b : List ℤ} → Pair a b → (i j : ℕ) → Within 40000000000 (worthA a b i j)
-worthA-within p i j = own-within (p .lower) (p .upper) i j
-
-pub worthB-within : {a b : List ℤ} → Pair a b → (i j : ℕ) → Within 40000000000 (worthB a b i j)
-worthB-within {a} {b} p i j = rw (exchanged a b i j) (own-within (p .upper) (p .lower) j i)
+pub worthB-within : {a b : List ℤ} → Ranged a → Ranged b → (i j : ℕ) → Within 40000000000 (worthB a b i j)
+worthB-within {a} {b} p q i j = rw (exchanged a b i j) (worthA-within q p j i)

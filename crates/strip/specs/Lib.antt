@@ -6,3 +6,5 @@ pub mod Judging
 pub mod Status
 pub mod Walk
 pub mod Band
+pub mod Arrays
+pub mod Weighed

@@ -1,16 +1,21 @@
 // The value of a strip, and the judging of one made elsewhere: 01, "Strip, value, order".
 ghost use mathlib.Core.Path.{_≡_};
 ghost use mathlib.Core.Bool.{false};
-ghost use Prim.Native.Nat.{_+_, _*_, _<_};
+ghost use Prim.Native.Nat.{_+_, _*_, _≤_};
 ghost use lib.IntN.{pos, _-ℤ_, _*ℤ_};
 ghost use lib.ListN.{length, getD};
-ghost use Rattle.strip.specs.Pair.{PairCounts};
 ghost use Rattle.strip.specs.Judging.{StripJudged};
-ghost use Rattle.strip.specs.Walk.{Reached, PointIs, Fair, Beside, wayWorth, Ready, Stepped, Along, answered};
+ghost use Rattle.strip.specs.Arrays.{arrays};
+ghost use Rattle.strip.specs.Walk.{gainOf, Few, Ready, Stepped, Along, answered};
+ghost use Rattle.strip.specs.Weighed.{Weighed};
+ghost use Rattle.trace.specs.Outline.{fairly};
+ghost use Rattle.whole.specs.Between.{Within};
 use fault::Fault;
 use fault::Refusal;
 use fault::refuse;
 use trace::Judgement;
+use trace::outline::outline_of;
+use trace::outline::points_read;
 use whole::cross;
 
 // A value, or a refusal.
@@ -35,12 +40,28 @@ pub fn judge_strip(a: &[i32], b: &[i32], strip: &[u8]) -> Valued
     if strip.len() != m + n {
         return answer(lost());
     }
-    answer(walk(a, b, m, n, strip))
+    answer(walk(a, b, strip))
 }
 
-struct Point {
-    x: i32,
-    y: i32,
+// 01's W of a strip between two traces, for whoever needs the volume; 0 of bytes that are none. Takes every input, and judges no trace: of
+// any list that is read which `outline_of` reads.
+pub fn weigh(a: &[i32], b: &[i32], strip: &[u8]) -> i64
+    ensures { λ r. ⌜ Weighed (fairly (now (a .entry))) (fairly (now (b .entry))) (now (strip .entry)) r ⌝ }
+{
+    let m = points_read(a.len());
+    let n = points_read(b.len());
+    let all = walk(a, b, strip);
+    if all.ok & (all.i == m) & (all.j == n) {
+        return all.value;
+    }
+    0
+}
+
+// What a step is worth: the other side's point (ox, oy) with the own segment (dx, dy). 01's two rules are this one, with the sides exchanged.
+pub fn worth(ox: i32, oy: i32, dx: i32, dy: i32) -> i64
+    ensures { λ r. ⌜ r ≡ ox *ℤ dy -ℤ oy *ℤ dx ⌝ }
+{
+    cross(ox, oy, dx, dy)
 }
 
 // A strip up to a step: the steps A and the steps B so far, and what they are worth together. Once a byte was no step, or one
@@ -52,60 +73,9 @@ struct Walked {
     ok: bool,
 }
 
-// Point `k` as it stands in the list.
-fn read_point(coords: &[i32], k: usize) -> Point
-    requires { ⌜ 2 * k + 1 < length (now coords) ⌝ }
-    ensures { λ r. ⌜ (r .x ≡ getD (now (coords .entry)) (2 * k) (pos 0)) × (r .y ≡ getD (now (coords .entry)) (2 * k + 1) (pos 0)) ⌝ }
-{
-    Point {
-        x: coords[2 * k],
-        y: coords[2 * k + 1],
-    }
-}
-
-// Point `k` of a trace of `n` points, where point `n` is point 0: no remainder, since no index goes further.
-fn point_at(coords: &[i32], n: usize, k: usize) -> Point
-    requires { ⌜ Reached (now coords) n k ⌝ }
-    ensures { λ r. ⌜ PointIs (now (coords .entry)) k r ⌝ }
-{
-    if k == n {
-        return read_point(coords, 0);
-    }
-    read_point(coords, k)
-}
-
-// What a step from `p` to `q` along its own side is worth, with the point `o` of the other side.
-fn worth(o: Point, p: Point, q: Point) -> i64
-    requires { ⌜ Fair o × Fair p × Fair q ⌝ }
-    ensures { λ r. ⌜ r ≡ o .x *ℤ (q .y -ℤ p .y) -ℤ o .y *ℤ (q .x -ℤ p .x) ⌝ }
-{
-    cross(o.x, o.y, q.x - p.x, q.y - p.y)
-}
-
-// What a step along `own` from its point `from` to its point `to` is worth, with point `k` of the other side: 01's two rules are
-// this one, with the sides exchanged.
-fn worth_along(
-    own: &[i32],
-    m: usize,
-    from: usize,
-    to: usize,
-    other: &[i32],
-    n: usize,
-    k: usize,
-) -> i64
-    requires { ⌜ Beside (now own) m from to (now other) n k ⌝ }
-    ensures { λ r. ⌜ r ≡ wayWorth (now (own .entry)) from to (now (other .entry)) k ⌝ }
-{
-    worth(
-        point_at(other, n, k),
-        point_at(own, m, from),
-        point_at(own, m, to),
-    )
-}
-
 // No strip.
 fn lost() -> Walked
-    ensures { λ r. ⌜ r .ok ≡ false ⌝ }
+    ensures { λ r. ⌜ (r .ok ≡ false) × Few r ⌝ }
 {
     Walked {
         i: 0,
@@ -115,10 +85,34 @@ fn lost() -> Walked
     }
 }
 
+// What the step that a byte says gains from the pair (i,j).
+fn gain(
+    byte: u8,
+    i: usize,
+    j: usize,
+    ax: &[i32; 251],
+    ay: &[i32; 251],
+    adx: &[i32; 251],
+    ady: &[i32; 251],
+    bx: &[i32; 251],
+    by: &[i32; 251],
+    bdx: &[i32; 251],
+    bdy: &[i32; 251],
+) -> i64
+    requires { ⌜ (i ≤ 250) × (j ≤ 250) ⌝ }
+    ensures { λ r. ⌜ r ≡ gainOf byte i j (arrays (now (ax .entry)) (now (ay .entry)) (now (adx .entry)) (now (ady .entry)))
+        (arrays (now (bx .entry)) (now (by .entry)) (now (bdx .entry)) (now (bdy .entry))) ⌝ }
+{
+    if byte == 0 {
+        return worth(bx[j], by[j], adx[i], ady[i]);
+    }
+    worth(ax[i], ay[i], bdx[j], bdy[j])
+}
+
 // One byte more. A side that has all its steps takes no other, so that no point is read beyond the first written again.
-fn step(a: &[i32], b: &[i32], m: usize, n: usize, so_far: Walked, byte: u8) -> Walked
-    requires { ⌜ PairCounts (now a) (now b) m n × Ready m n «so_far» ⌝ }
-    ensures { λ r. ⌜ Stepped (now (a .entry)) (now (b .entry)) «so_far» byte r ⌝ }
+fn step(so_far: Walked, m: usize, n: usize, byte: u8, gain: i64) -> Walked
+    requires { ⌜ Ready m n «so_far» × Within 40000000000 gain × Few «so_far» × (m ≤ 250) × (n ≤ 250) ⌝ }
+    ensures { λ r. ⌜ Stepped m n gain «so_far» byte r × Few r ⌝ }
 {
     if !so_far.ok {
         return so_far;
@@ -132,10 +126,8 @@ fn step(a: &[i32], b: &[i32], m: usize, n: usize, so_far: Walked, byte: u8) -> W
         if i == m {
             return lost();
         }
-        let next = i + 1;
-        let gain = worth_along(a, m, i, next, b, n, j);
         return Walked {
-            i: next,
+            i: i + 1,
             j,
             value: so_far.value + gain,
             ok: true,
@@ -144,21 +136,30 @@ fn step(a: &[i32], b: &[i32], m: usize, n: usize, so_far: Walked, byte: u8) -> W
     if j == n {
         return lost();
     }
-    let next = j + 1;
-    let gain = worth_along(b, n, j, next, a, m, i);
     Walked {
         i,
-        j: next,
+        j: j + 1,
         value: so_far.value + gain,
         ok: true,
     }
 }
 
 // The whole strip, each byte once. It goes on where it is no strip any more: that costs nothing worth a second way out.
-fn walk(a: &[i32], b: &[i32], m: usize, n: usize, strip: &[u8]) -> Walked
-    requires { ⌜ PairCounts (now a) (now b) m n ⌝ }
-    ensures { λ r. ⌜ Along (now (a .entry)) (now (b .entry)) (now (strip .entry)) (length (now (strip .entry))) r ⌝ }
+fn walk(a: &[i32], b: &[i32], strip: &[u8]) -> Walked
+    ensures { λ r. ⌜ Along (fairly (now (a .entry))) (fairly (now (b .entry))) (now (strip .entry)) (length (now (strip .entry))) r ⌝ }
 {
+    let lower = outline_of(a);
+    let upper = outline_of(b);
+    let ax = lower.x;
+    let ay = lower.y;
+    let adx = lower.dx;
+    let ady = lower.dy;
+    let bx = upper.x;
+    let by = upper.y;
+    let bdx = upper.dx;
+    let bdy = upper.dy;
+    let m = lower.count;
+    let n = upper.count;
     let mut so_far = Walked {
         i: 0,
         j: 0,
@@ -167,8 +168,12 @@ fn walk(a: &[i32], b: &[i32], m: usize, n: usize, strip: &[u8]) -> Walked
     };
     let mut k = 0;
     while k < strip.len() {
-        so_far = step(a, b, m, n, so_far, strip[k]);
+        let byte = strip[k];
         k += 1;
+        let i = so_far.i;
+        let j = so_far.j;
+        let more = gain(byte, i, j, &ax, &ay, &adx, &ady, &bx, &by, &bdx, &bdy);
+        so_far = step(so_far, m, n, byte, more);
     }
     so_far
 }

@@ -15,8 +15,8 @@ use Rattle.trace.specs.declared.outline.Outline.{Outline}
 use Rattle.trace.specs.Points.{count, px, py}
 use Rattle.trace.specs.Judged.{inRange}
 use Rattle.trace.specs.Faults.{Accepted}
-use Rattle.trace.specs.Outline.{fair, fairly, Follows, Outlined, Wrapped}
-use Rattle.trace.proofs.PointLaws.{px-at, py-at, px-round, py-round, range-within, within-range}
+use Rattle.trace.specs.Outline.{fair, fairly, Follows, Outlined, Ranged, Wrapped}
+use Rattle.trace.proofs.PointLaws.{px-at, py-at, px-round, py-round, range-within, within-range, accepted-x, accepted-y}
 
 -- ---- what is read
 
@@ -63,11 +63,11 @@ module _ (c : List ℤ) where
   unfolding fairly
   within-at i = subst (Within 100000) (sym (getD-fair (take (2 * read) c) i)) (fair-within (getD (take (2 * read) c) i (pos 0)))
 
-  pub fairly-x : (k : ℕ) → Within 100000 (px (fairly c) k)
+  fairly-x : (k : ℕ) → Within 100000 (px (fairly c) k)
   unfolding px
   fairly-x k = within-at (2 * (k % count (fairly c)))
 
-  pub fairly-y : (k : ℕ) → Within 100000 (py (fairly c) k)
+  fairly-y : (k : ℕ) → Within 100000 (py (fairly c) k)
   unfolding py
   fairly-y k = within-at (2 * (k % count (fairly c)) + 1)
 
@@ -78,6 +78,12 @@ module _ (c : List ℤ) where
   none-y : read ≡ 0 → (k : ℕ) → py (fairly c) k ≡ pos 0
   unfolding py
   none-y e k = fairly-none e (2 * (k % count (fairly c)) + 1)
+
+pub fairly-ranged : (c : List ℤ) → Ranged (fairly c)
+fairly-ranged c = record { x = fairly-x c; y = fairly-y c }
+
+pub accepted-ranged : {c : List ℤ} → Accepted c → Ranged c
+accepted-ranged a = record { x = accepted-x a; y = accepted-y a }
 
 -- of an accepted trace all is read, as it is
 pub fairly-same : {c : List ℤ} → Accepted c → fairly c ≡ c
@@ -223,12 +229,15 @@ follows-one {f} {n} {r} {s} p q = ext-getD (pos 0) r s (p .long ∙ sym (q .long
 
 -- two outcomes that `outline_of`'s contract allows coincide
 pub outline-unique : {c : List ℤ} {p q : Outline} → Outlined c p → Outlined c q → p ≡ q
-outline-unique {p = p} {q} o u = go (follows-one (o .x) (u .x)) (follows-one (o .y) (u .y)) (follows-one (o .dx) (u .dx)) (follows-one (o .dy) (u .dy))
+outline-unique {p = p} {q} o u =
+    go (follows-one (o .x) (u .x)) (follows-one (o .y) (u .y)) (follows-one (o .dx) (u .dx)) (follows-one (o .dy) (u .dy))
+    (o .counted ∙ sym (u .counted))
   where
-    of : List ℤ → List ℤ → List ℤ → List ℤ → Outline
-    of x y dx dy = record { x = x; y = y; dx = dx; dy = dy }
+    of : List ℤ → List ℤ → List ℤ → List ℤ → ℕ → Outline
+    of x y dx dy n = record { x = x; y = y; dx = dx; dy = dy; count = n }
 
-    go : p .x ≡ q .x → p .y ≡ q .y → p .dx ≡ q .dx → p .dy ≡ q .dy → p ≡ q
-    go a b d e =
-        ap (λ (l : List ℤ). of l (p .y) (p .dx) (p .dy)) a ∙ ap (λ (l : List ℤ). of (q .x) l (p .dx) (p .dy)) b
-        ∙ ap (λ (l : List ℤ). of (q .x) (q .y) l (p .dy)) d ∙ ap (of (q .x) (q .y) (q .dx)) e
+    go : p .x ≡ q .x → p .y ≡ q .y → p .dx ≡ q .dx → p .dy ≡ q .dy → p .count ≡ q .count → p ≡ q
+    go a b d e n =
+        ap (λ (l : List ℤ). of l (p .y) (p .dx) (p .dy) (p .count)) a ∙ ap (λ (l : List ℤ). of (q .x) l (p .dx) (p .dy) (p .count)) b
+        ∙ ap (λ (l : List ℤ). of (q .x) (q .y) l (p .dy) (p .count)) d ∙ ap (λ (l : List ℤ). of (q .x) (q .y) (q .dx) l (p .count)) e
+        ∙ ap (of (q .x) (q .y) (q .dx) (q .dy)) n

@@ -5,6 +5,7 @@ use mathlib.Core.List.{List, map}
 use Prim.Native.Nat.{ℕ, suc, _+_, _*_, _/_, _≤_, _<_, min}
 use lib.IntN.{ℤ, pos, _-ℤ_}
 use lib.ListN.{length, getD, take}
+use Rattle.whole.specs.Between.{Within}
 use Rattle.trace.specs.declared.outline.Outline.{Outline}
 use Rattle.trace.specs.Points.{count, px, py}
 use Rattle.trace.specs.Judged.{inRange}
@@ -27,6 +28,12 @@ pub record Outlined (c : List ℤ) (p : Outline) : Type 0 where
   pub y : Follows (py c) (suc (count c)) (p .y)
   pub dx : Follows (λ k. px c (k + 1) -ℤ px c k) (count c) (p .dx)
   pub dy : Follows (λ k. py c (k + 1) -ℤ py c k) (count c) (p .dy)
+  pub counted : p .count ≡ count c
+
+-- Inner: every point of c is in range
+pub record Ranged (c : List ℤ) : Type 0 where
+  pub x : (k : ℕ) → Within 100000 (px c k)
+  pub y : (k : ℕ) → Within 100000 (py c k)
 
 -- Inner: the first m numbers of a coordinate (offset 0: x, 1: y), the first of them again, zeros
 pub record Wrapped (c : List ℤ) (m offset : ℕ) (r : List ℤ) : Type 0 where

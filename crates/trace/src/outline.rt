@@ -13,6 +13,8 @@ pub struct Outline {
     pub y: [i32; 251],
     pub dx: [i32; 251],
     pub dy: [i32; 251],
+    // The number of points.
+    pub count: usize,
 }
 
 // Takes every slice. Of over 250 points the first 250 are read, and what is no coordinate reads 0, so that no sum can overflow; of an
@@ -25,10 +27,17 @@ pub fn outline_of(coords: &[i32]) -> Outline
     let y = wrapped(coords, m, 1);
     let dx = differences(&x, m);
     let dy = differences(&y, m);
-    Outline { x, y, dx, dy }
+    Outline {
+        x,
+        y,
+        dx,
+        dy,
+        count: m,
+    }
 }
 
-fn points_read(numbers: usize) -> usize
+// How many points are read of so many coordinates.
+pub fn points_read(numbers: usize) -> usize
     ensures { λ r. ⌜ r ≡ min (numbers / 2) 250 ⌝ }
 {
     let m = numbers / 2;

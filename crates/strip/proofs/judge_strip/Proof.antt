@@ -5,7 +5,7 @@ use borrow.Author.Needs.{needs}
 use Rattle.strip.proofs.JudgingLaws.{pair}
 use Rattle.strip.specs.Pair.{PairCounts}
 use Rattle.strip.proofs.PairLaws.{Counts, counts, pair-counts, few-points, refuses-lower, refuses-upper}
-use Rattle.strip.proofs.Along.{length-judged, along-judged}
+use Rattle.strip.proofs.Along.{length-judged, along-judged, along-same}
 use Rattle.strip.proofs.judge_strip.Statement.{statement}
 use Rattle.strip.proofs.judge_strip.Tie as tie
 
@@ -67,10 +67,10 @@ answer-requires c κs = search needs
 returns-3 : tie.Need-returns-3
 returns-3 c =
     let first = c .before .before in
-    length-judged (c .before .lost .result) (sides (first .before)) (c .answer .ensures) (first .if1 .taken) (c .before .lost .ensures)
+    length-judged (c .before .lost .result) (sides (first .before)) (c .answer .ensures) (first .if1 .taken) (c .before .lost .ensures .0)
 
 walk-requires : tie.Need-walk-requires
-walk-requires c κs = sides (c .before)
+walk-requires c κs = search needs
 
 answer-requires-2 : tie.Need-answer-requires-2
 answer-requires-2 c κs = search needs
@@ -78,7 +78,8 @@ answer-requires-2 c κs = search needs
 returns-4 : tie.Need-returns-4
 returns-4 c =
     let first = c .before .before in
-    along-judged (c .before .walk .result) (sides (first .before)) (c .answer2 .ensures) (first .if1 .left) (c .before .walk .ensures)
+    let both = sides (first .before) in
+    along-judged (c .before .walk .result) both (c .answer2 .ensures) (first .if1 .left) (along-same (both .pair) (c .before .walk .ensures))
 
 pub judge-strip-spec : {M : Type 1} → statement M
 judge-strip-spec =

@@ -1,5 +1,4 @@
--- `strip::step` meets its contract: each `return` is one case of what a byte does. The two kinds of step have the same needs with
--- the traces exchanged. Assumes nothing.
+-- `strip::step` meets its contract: each `return` is one case of what a byte does. Assumes nothing.
 use mathlib.Core.Path.{_≡_, refl}
 use mathlib.Core.Bool.{true}
 use Prim.Native.Nat.{_<_}
@@ -8,9 +7,8 @@ use borrow.Author.Needs.{needs}
 use borrow.Author.Tests.{not-true, not-false}
 use mir.Syntax.{w64}
 use Rattle.whole.proofs.Machine.{held, fits-holds}
-use Rattle.strip.specs.Worth.{worthA, worthB}
 use Rattle.strip.specs.Walk.{lost, over}
-use Rattle.strip.proofs.StepLaws.{turned, gained-lower, gained-upper, Sum, added, full-lower, full-upper, by-lower, by-upper}
+use Rattle.strip.proofs.StepLaws.{Sum, added, full-lower, full-upper, by-lower, by-upper}
 use Rattle.strip.proofs.step.Statement.{statement}
 use Rattle.strip.proofs.step.Tie as tie
 
@@ -18,14 +16,18 @@ use Rattle.strip.proofs.step.Tie as tie
 ok : (c : tie.Else1) → c .before .before .args .so-far .ok ≡ true
 ok c = not-false _ (c .if1 .left)
 
+-- what the sum comes to
+sum : (c : tie.Else1) → let a = c .before .before .args in Sum (a .so-far .value) (a .gain)
+sum c = let pre = c .before .before .pre in added (pre .0 .small (ok c)) (pre .1)
+
 returns : tie.Need-returns
-returns c = let e = not-true _ (c .if1 .taken) in lost e e
+returns c = let e = not-true _ (c .if1 .taken) in (lost e e, c .before .before .pre .2)
 
 lost-requires : tie.Need-lost-requires
 lost-requires c κs = search needs
 
 returns-2 : tie.Need-returns-2
-returns-2 c = over (c .lost .ensures) (c .before .if2 .taken)
+returns-2 c = (over (c .lost .ensures .0) (c .before .if2 .taken), c .lost .ensures .1)
 
 -- ---- a step A
 
@@ -35,44 +37,29 @@ lost-requires-2 c κs = search needs
 returns-3 : tie.Need-returns-3
 returns-3 c =
     let first = c .before .before .before .before in
-    full-lower (first .before .before .pre .0) (ok first) (c .before .before .if3 .taken) (c .lost2 .ensures) (c .before .if4 .taken)
+    (full-lower (ok first) (c .before .before .if3 .taken) (c .lost2 .ensures .0) (c .before .if4 .taken), c .lost2 .ensures .1)
 
-abbrev start-lower : tie.Else4 → tie.Start
-start-lower c = c .before .before .before .before .before
-
-abbrev ok-lower : (c : tie.Else4) → start-lower c .args .so-far .ok ≡ true
-ok-lower c = ok (c .before .before .before)
+abbrev first-lower : tie.Else4 → tie.Else1
+first-lower c = c .before .before .before
 
 -- there is room for it
-room-lower : (c : tie.Else4) → start-lower c .args .so-far .i < start-lower c .args .m
-room-lower c = omega (arith, start-lower c .pre .1 .inA (ok-lower c), c .if4 .left)
+room-lower : (c : tie.Else4) → let a = first-lower c .before .before .args in a .so-far .i < a .m
+room-lower c = omega (arith, first-lower c .before .before .pre .0 .inA (ok (first-lower c)), c .if4 .left)
 
-add-next : tie.Need-add-next
-add-next c = omega (arith, room-lower c)
+add-t10 : tie.Need-add-t10
+add-t10 c = omega (arith, room-lower c)
 
-worth-along-requires : tie.Need-worth-along-requires
-worth-along-requires c κs =
-    let pre = start-lower c .pre in
-    let room = room-lower c in
-    record { sides = pre .0; inFrom = omega arith; inTo = omega arith; inOther = pre .1 .inB (ok-lower c) }
-
-sum-lower : (c : tie.After-worth-along) →
-    let s = start-lower (c .before) .args in
-    Sum (s .so-far .value) (c .worth-along .result) (worthA (s .a .now) (s .b .now) (s .so-far .i) (s .so-far .j))
-sum-lower c =
-    let pre = start-lower (c .before) .pre in
-    let s = start-lower (c .before) .args .so-far in
-    added (pre .1 .small (ok-lower (c .before))) (gained-lower (pre .0 .pair) (s .i) (s .j) (c .worth-along .ensures))
-
-add-t15 : tie.Need-add-t15
-add-t15 c = fits-holds w64 (sum-lower (c .before .before)) tt
+add-t11 : tie.Need-add-t11
+add-t11 c = fits-holds w64 (sum (first-lower (c .before .before))) tt
 
 returns-4 : tie.Need-returns-4
 returns-4 c =
-    let here = c .before .before .before in
-    let pre = start-lower here .pre in
-    by-lower (pre .0) (ok-lower here) (here .before .if3 .taken) refl (room-lower here) (pre .1 .inB (ok-lower here)) refl refl
-    (held w64 (sum-lower (c .before .before)) tt .is)
+    let here = c .before .before in
+    let first = first-lower here in
+    let pre = first .before .before .pre in (
+      by-lower (ok first) (here .before .if3 .taken) refl (room-lower here) (pre .0 .inB (ok first)) refl refl (held w64 (sum first) tt .is),
+      record { i = omega (arith, room-lower here, pre .3); j = pre .2 .j },
+    )
 
 -- ---- a step B
 
@@ -85,44 +72,29 @@ is-one c = omega (arith, c .before .if2 .left, c .if3 .left)
 returns-5 : tie.Need-returns-5
 returns-5 c =
     let first = c .before .before .before .before in
-    full-upper (first .before .before .pre .0) (ok first) (is-one (c .before .before)) (c .lost3 .ensures) (c .before .if5 .taken)
+    (full-upper (ok first) (is-one (c .before .before)) (c .lost3 .ensures .0) (c .before .if5 .taken), c .lost3 .ensures .1)
 
-abbrev start-upper : tie.Else5 → tie.Start
-start-upper c = c .before .before .before .before .before
-
-abbrev ok-upper : (c : tie.Else5) → start-upper c .args .so-far .ok ≡ true
-ok-upper c = ok (c .before .before .before)
+abbrev first-upper : tie.Else5 → tie.Else1
+first-upper c = c .before .before .before
 
 -- there is room for it
-room-upper : (c : tie.Else5) → start-upper c .args .so-far .j < start-upper c .args .n
-room-upper c = omega (arith, start-upper c .pre .1 .inB (ok-upper c), c .if5 .left)
+room-upper : (c : tie.Else5) → let a = first-upper c .before .before .args in a .so-far .j < a .n
+room-upper c = omega (arith, first-upper c .before .before .pre .0 .inB (ok (first-upper c)), c .if5 .left)
 
-add-next-2 : tie.Need-add-next-2
-add-next-2 c = omega (arith, room-upper c)
+add-t12 : tie.Need-add-t12
+add-t12 c = omega (arith, room-upper c)
 
-worth-along-requires-2 : tie.Need-worth-along-requires-2
-worth-along-requires-2 c κs =
-    let pre = start-upper c .pre in
-    let room = room-upper c in
-    record { sides = turned (pre .0); inFrom = omega arith; inTo = omega arith; inOther = pre .1 .inA (ok-upper c) }
-
-sum-upper : (c : tie.After-worth-along2) →
-    let s = start-upper (c .before) .args in
-    Sum (s .so-far .value) (c .worth-along2 .result) (worthB (s .a .now) (s .b .now) (s .so-far .i) (s .so-far .j))
-sum-upper c =
-    let pre = start-upper (c .before) .pre in
-    let s = start-upper (c .before) .args .so-far in
-    added (pre .1 .small (ok-upper (c .before))) (gained-upper (pre .0 .pair) (s .i) (s .j) (c .worth-along2 .ensures))
-
-add-t16 : tie.Need-add-t16
-add-t16 c = fits-holds w64 (sum-upper (c .before .before)) tt
+add-t13 : tie.Need-add-t13
+add-t13 c = fits-holds w64 (sum (first-upper (c .before .before))) tt
 
 returns-6 : tie.Need-returns-6
 returns-6 c =
-    let here = c .before .before .before in
-    let pre = start-upper here .pre in
-    by-upper (pre .0) (ok-upper here) (is-one (here .before)) refl (pre .1 .inA (ok-upper here)) (room-upper here) refl refl
-    (held w64 (sum-upper (c .before .before)) tt .is)
+    let here = c .before .before in
+    let first = first-upper here in
+    let pre = first .before .before .pre in (
+      by-upper (ok first) (is-one (here .before)) refl (pre .0 .inA (ok first)) (room-upper here) refl refl (held w64 (sum first) tt .is),
+      record { i = pre .2 .i; j = omega (arith, room-upper here, pre .4) },
+    )
 
 pub step-spec : {M : Type 1} → statement M
 step-spec =
@@ -133,13 +105,11 @@ step-spec =
     returns-2
     lost-requires-2
     returns-3
-    add-next
-    worth-along-requires
-    add-t15
+    add-t10
+    add-t11
     returns-4
     lost-requires-3
     returns-5
-    add-next-2
-    worth-along-requires-2
-    add-t16
+    add-t12
+    add-t13
     returns-6)

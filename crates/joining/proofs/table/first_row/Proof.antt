@@ -3,7 +3,7 @@ use mathlib.Core.List.{[]}
 use Prim.Native.Nat.{_+_, _*_, _-_}
 use native.Mathlib.Omega.{arith}
 use borrow.Author.Needs.{needs}
-use Rattle.joining.specs.Table.{outline, worthsOf}
+use Rattle.joining.specs.Table.{arrays, worthsOf}
 use Rattle.joining.proofs.CellLaws.{room-fits}
 use Rattle.joining.proofs.RowLaws.{ready-put}
 use Rattle.joining.proofs.TableLaws.{FirstSo, first-begun, first-ready, first-more, first-done}
@@ -12,7 +12,7 @@ use Rattle.joining.proofs.table.first_row.Tie as tie
 
 abbrev Inv-loop : tie.InvT-loop
 Inv-loop row₀ work₀ n ax ay bdx bdy j₀ row work j =
-    FirstSo (worthsOf (outline ax ay [] []) (outline [] [] bdx bdy)) n j row work₀ work
+    FirstSo (worthsOf (arrays ax ay [] []) (arrays [] [] bdx bdy)) n j row work₀ work
 
 abbrev μ-loop : tie.MeasureT-loop
 μ-loop row₀ work₀ n ax ay bdx bdy j₀ row work j = n - j
@@ -26,12 +26,12 @@ put-mark-requires c κs = room-fits {b = (0 + 1) * (c .before .before .args .n +
 loop-holds : tie.Need-loop-holds Inv-loop μ-loop
 loop-holds c =
     let a = c .before .before .before .before .before .args in
-    first-begun (worthsOf (outline (a .ax .now) (a .ay .now) [] []) (outline [] [] (a .bdx .now) (a .bdy .now))) (a .n) (a .row .now) (a .work .now) _ (c .before .before .before .before .before .pre .1) (c .before .before .put-mark .ensures)
+    first-begun (worthsOf (arrays (a .ax .now) (a .ay .now) [] []) (arrays [] [] (a .bdx .now) (a .bdy .now))) (a .n) (a .row .now) (a .work .now) _ (c .before .before .before .before .before .pre .1) (c .before .before .put-mark .ensures)
 
 border-requires : tie.Need-border-requires Inv-loop μ-loop
 border-requires c κs =
     let a = c .before .before .before .before .before .before .before .before .before .args in
-    first-ready (outline (a .ax .now) (a .ay .now) [] []) (outline [] [] (a .bdx .now) (a .bdy .now))
+    first-ready (arrays (a .ax .now) (a .ay .now) [] []) (arrays [] [] (a .bdx .now) (a .bdy .now))
     (a .n) _ _ _ _ (ready-put (c .before .before .before .before .before .before .before .before .before .pre .0) (c .before .before .before .before .before .before .put-mark .ensures)) (c .before .before .before .loop .inv) (c .before .before .loop-test .taken)
 
 add-j : tie.Need-add-j Inv-loop μ-loop
@@ -43,7 +43,7 @@ loop-less c = search needs
 loop-again : tie.Need-loop-again Inv-loop μ-loop
 loop-again c =
     let a = c .before .before .before .before .before .before .before .before .before .before .before .before .args in
-    first-more (outline (a .ax .now) (a .ay .now) [] []) (outline [] [] (a .bdx .now) (a .bdy .now))
+    first-more (arrays (a .ax .now) (a .ay .now) [] []) (arrays [] [] (a .bdx .now) (a .bdy .now))
     (a .n) _ _ _ _ _ _ (c .before .before .before .before .before .before .before .before .before .before .before .before .pre .0 .fewB) (c .before .before .before .before .before .before .loop .inv) (c .before .before .before .before .before .loop-test .taken) (c .before .before .border .ensures)
 
 same-length : tie.Need-same-length Inv-loop μ-loop
@@ -52,7 +52,7 @@ same-length c = search needs
 returns : tie.Need-returns Inv-loop μ-loop
 returns c =
     let a = c .before .before .before .before .before .before .before .args in
-    first-done (worthsOf (outline (a .ax .now) (a .ay .now) [] []) (outline [] [] (a .bdx .now) (a .bdy .now)))
+    first-done (worthsOf (arrays (a .ax .now) (a .ay .now) [] []) (arrays [] [] (a .bdx .now) (a .bdy .now)))
     (a .n) _ _ _ _ _ (c .loop-test .left) (c .before .before .before .before .put-mark .ensures) (c .before .loop .inv)
 
 pub first-row-spec : {M : Type 1} → statement M

@@ -5,7 +5,7 @@ use native.Mathlib.Omega.{arith}
 use lib.IntN.{ℤ, _+ℤ_}
 use mir.Syntax.{w64}
 use Rattle.whole.proofs.Machine.{returned}
-use Rattle.joining.specs.Table.{outline, worthsOf}
+use Rattle.joining.specs.Table.{arrays, worthsOf}
 use Rattle.joining.proofs.CellLaws.{room-fits}
 use Rattle.joining.proofs.ChoiceLaws.{step-small, small-segment, segment-is}
 use Rattle.joining.proofs.RowLaws.{cells-few, RowSo, ready-put, row-end, row-within, row-begun, row-ready, row-more, row-done}
@@ -15,7 +15,7 @@ use Rattle.joining.proofs.table.next_row.Tie as tie
 
 abbrev Inv-loop : tie.InvT-loop
 Inv-loop row₀ work₀ i n ax ay adx ady bx by bdx bdy at start j₀ row work j =
-    RowSo (worthsOf (outline ax ay adx ady) (outline bx by bdx bdy)) i n at j row work₀ work
+    RowSo (worthsOf (arrays ax ay adx ady) (arrays bx by bdx bdy)) i n at j row work₀ work
 
 abbrev μ-loop : tie.MeasureT-loop
 μ-loop row₀ work₀ i n ax ay adx ady bx by bdx bdy at start j₀ row work j = n - j
@@ -63,8 +63,8 @@ loop-holds c =
     let a = start .args in
     let pre = start .pre in
     let by-a = c .before .before .before .before .by-step-a in
-    let p = outline (a .ax .now) (a .ay .now) (a .adx .now) (a .ady .now) in
-    let q = outline (a .bx .now) (a .by .now) (a .bdx .now) (a .bdy .now) in
+    let p = arrays (a .ax .now) (a .ay .now) (a .adx .now) (a .ady .now) in
+    let q = arrays (a .bx .now) (a .by .now) (a .bdx .now) (a .bdy .now) in
     let above = row-within p q (a .i) (a .n) 0 (a .row .now) (a .work .now) (pre .0) (pre .1) (omega arith) in
     row-begun (worthsOf p q) (a .i) (a .n) _ (a .row .now) _ (a .work .now) _ (pre .0 .fewB) (pre .1)
     (returned w64 (segment-is (step-small above (pre .0 .bounded′) (pre .0 .bounded) 0 (a .i)) (by-a .ensures) ∙ ap (λ (z : ℤ). z +ℤ worthsOf p q .worthA (a .i) 0) (pre .1 .values 0 (omega arith))) (by-a .ok))
@@ -74,7 +74,7 @@ cell-requires : tie.Need-cell-requires Inv-loop μ-loop
 cell-requires c κs =
     let start = c .before .before .before .before .before .before .before .before .before .before .before .before .before in
     let a = start .args in
-    row-ready (outline (a .ax .now) (a .ay .now) (a .adx .now) (a .ady .now)) (outline (a .bx .now) (a .by .now) (a .bdx .now) (a .bdy .now))
+    row-ready (arrays (a .ax .now) (a .ay .now) (a .adx .now) (a .ady .now)) (arrays (a .bx .now) (a .by .now) (a .bdx .now) (a .bdy .now))
     (a .i) (a .n) _ _ _ _ _ (ready-put (start .pre .0) (c .before .before .before .before .before .before .put-mark .ensures)) refl (c .before .before .before .loop .inv) (c .before .before .loop-test .taken)
 
 add-j : tie.Need-add-j Inv-loop μ-loop
@@ -87,7 +87,7 @@ loop-again : tie.Need-loop-again Inv-loop μ-loop
 loop-again c =
     let start = c .before .before .before .before .before .before .before .before .before .before .before .before .before .before .before .before in
     let a = start .args in
-    row-more (outline (a .ax .now) (a .ay .now) (a .adx .now) (a .ady .now)) (outline (a .bx .now) (a .by .now) (a .bdx .now) (a .bdy .now))
+    row-more (arrays (a .ax .now) (a .ay .now) (a .adx .now) (a .ady .now)) (arrays (a .bx .now) (a .by .now) (a .bdx .now) (a .bdy .now))
     (a .i) (a .n) _ _ _ _ _ _ _ (start .pre .0 .fewB) (c .before .before .before .before .before .before .loop .inv) (c .before .before .before .before .before .loop-test .taken) (c .before .before .cell .ensures)
 
 same-length : tie.Need-same-length Inv-loop μ-loop
@@ -96,7 +96,7 @@ same-length c = search needs
 returns : tie.Need-returns Inv-loop μ-loop
 returns c =
     let a = c .before .before .before .before .before .before .before .before .before .before .before .args in
-    row-done (worthsOf (outline (a .ax .now) (a .ay .now) (a .adx .now) (a .ady .now)) (outline (a .bx .now) (a .by .now) (a .bdx .now) (a .bdy .now)))
+    row-done (worthsOf (arrays (a .ax .now) (a .ay .now) (a .adx .now) (a .ady .now)) (arrays (a .bx .now) (a .by .now) (a .bdx .now) (a .bdy .now)))
     (a .i) (a .n) _ _ _ _ _ refl (c .before .before .before .before .put-mark .ensures) (row-end (c .before .loop .inv) (c .loop-test .left))
 
 pub next-row-spec : {M : Type 1} → statement M

@@ -1,6 +1,7 @@
 -- `trace::outline::outline_of` meets its contract: a wrapped coordinate runs round, and its differences are the segments. Assumes nothing.
+use mathlib.Core.Path.{sym, _∙_}
 use native.Mathlib.Omega.{arith}
-use Rattle.trace.proofs.OutlineLaws.{wrapped-within, follows-x, follows-y, segments}
+use Rattle.trace.proofs.OutlineLaws.{fairly-count, wrapped-within, follows-x, follows-y, segments}
 use borrow.Author.Needs.{needs}
 use Rattle.trace.proofs.outline.outline_of.Statement.{statement}
 use Rattle.trace.proofs.outline.outline_of.Tie as tie
@@ -26,7 +27,13 @@ returns c =
     let n = c .before .before .before .before .before .before .points-read .ensures in
     let x = follows-x l n (c .before .before .before .before .before .wrapped .ensures) in
     let y = follows-y l n (c .before .before .before .before .wrapped2 .ensures) in
-    record { x = x; y = y; dx = segments l n x (c .before .before .differences .ensures); dy = segments l n y (c .differences2 .ensures) }
+    record {
+      x = x;
+      y = y;
+      dx = segments l n x (c .before .before .differences .ensures);
+      dy = segments l n y (c .differences2 .ensures);
+      counted = n ∙ sym (fairly-count l);
+    }
 
 pub outline-of-spec : {M : Type 1} → statement M
 outline-of-spec =
