@@ -39,7 +39,7 @@ static int listing(size_t m)
         text[t++] = '\n';
     }
     struct register_bytes_answer r = register_listing((const uint8_t *)text, (size_t)t, printed, sizeof printed);
-    return r.number == 0 && memcmp(printed + r.bytes - 5, "more\n", 5) == 0 ? 0 : wrong("no listing of 1000 strips");
+    return r.status.number == 0 && memcmp(printed + r.bytes - 5, "more\n", 5) == 0 ? 0 : wrong("no listing of 1000 strips");
 }
 
 int main(int argc, char **argv)
@@ -54,20 +54,20 @@ int main(int argc, char **argv)
         /* the same trace twice has many best strips */
         struct register_run_answer r =
             register_list_best(a, 2 * m, a, 2 * m, lines, sizeof lines, work, sizeof work, 1000);
-        return r.number == 0 && r.count == 1000 && r.more ? 0 : wrong("no run of 1000 strips");
+        return r.status.number == 0 && r.count == 1000 && r.more ? 0 : wrong("no run of 1000 strips");
     }
     if (argv[1][0] == 't')
         return listing(m);
     trace(b, n, 50000.0, 0.2);
     int64_t value = plain_best(a, m, b, n, other, work);
     struct register_answer r = register_best(a, 2 * m, b, 2 * n, strip, sizeof strip, work, sizeof work);
-    if (r.number != 0 || r.value != value || memcmp(strip, other, m + n) != 0)
+    if (r.status.number != 0 || r.value != value || memcmp(strip, other, m + n) != 0)
         return wrong("the two engines differ");
     if (twin_best(a, m, b, n, other, work) != value || memcmp(strip, other, m + n) != 0)
         return wrong("the twin differs");
     if (argv[1][0] == 'n') {
         r = register_next(a, 2 * m, b, 2 * n, strip, sizeof strip, work, sizeof work);
-        return r.number == 0 || r.number == 100 ? 0 : wrong("no next strip");
+        return r.status.number == 0 || r.status.number == 100 ? 0 : wrong("no next strip");
     }
     return 0;
 }

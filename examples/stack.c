@@ -10,8 +10,8 @@ int main(void)
     uint8_t strips[6], work[16], file[512];
 
     struct register_steps_answer best = register_best_strips(layers, 2, coords, 12, strips, 6, work, 16);
-    if (best.number) {
-        printf("refused %d %zu\n", best.number, best.place);
+    if (best.status.number) {
+        printf("refused %d %zu\n", best.status.number, best.status.place);
         return 1;
     }
     for (size_t k = 0; k < best.steps; k++)

@@ -47,22 +47,25 @@ enum register_number {
 #define REGISTER_MOST_FILE 50176
 #define REGISTER_LISTING_BYTES 501047
 
+/* What every answer begins with. Unless the number is 0, all that follows in the answer is 0. */
+struct register_status {
+    uint8_t number; /* enum register_number */
+    size_t place;   /* of a refusal that has one: the lowest trace, layer, band (its lower layer) or block at fault; else 0 */
+};
+
 struct register_answer {
-    uint8_t number;
-    size_t place;
+    struct register_status status;
     int64_t value;
 };
 
 struct register_trace_answer {
-    uint8_t number;
-    size_t place;
+    struct register_status status;
     int64_t area; /* twice the signed area */
     size_t count; /* number of points */
 };
 
 struct register_run_answer {
-    uint8_t number;
-    size_t place;
+    struct register_status status;
     int64_t value;
     size_t count; /* how many strips were written */
     bool more;    /* whether some remain */
@@ -77,34 +80,29 @@ struct register_layer {
 };
 
 struct register_stack_answer {
-    uint8_t number;
-    size_t place;
+    struct register_status status;
     size_t points; /* of all layers */
     size_t steps;  /* of all bands */
 };
 
 struct register_steps_answer {
-    uint8_t number;
-    size_t place;
+    struct register_status status;
     size_t steps; /* how many were written */
 };
 
 struct register_mesh_answer {
-    uint8_t number;
-    size_t place;
+    struct register_status status;
     size_t triangles; /* how many were written */
     int64_t six;      /* six times the volume */
 };
 
 struct register_bytes_answer {
-    uint8_t number;
-    size_t place;
+    struct register_status status;
     size_t bytes; /* how many were written */
 };
 
 struct register_file_answer {
-    uint8_t number;
-    size_t place;
+    struct register_status status;
     size_t layers;
     size_t points;
     size_t steps;
@@ -153,7 +151,7 @@ struct register_bytes_answer register_write(const struct register_layer *layers,
 struct register_file_answer register_read(const uint8_t *file, size_t file_len, struct register_layer *layers, size_t layers_len,
                                           int32_t *coords, size_t coords_len, uint8_t *strips, size_t strips_len);
 
-/* What the listing program prints for a text; lend 501,047 bytes. A refusal of the text is itself printed: number is then 0. */
+/* What the listing program prints for a text; lend 501,047 bytes. A refusal of the text is itself printed: the number is then 0. */
 struct register_bytes_answer register_listing(const uint8_t *text, size_t text_len, uint8_t *out, size_t out_len);
 
 #ifdef __cplusplus

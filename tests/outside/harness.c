@@ -1,5 +1,6 @@
-/* Holds the entry points of include/register.h to own.h on random inputs, short and long, right and damaged. Every lent slice stands
- * between guard bytes, and every byte of it is compared after every call. Prints what was tried; stops at the first difference. */
+/* Holds the entry points of include/register.h to own.h on random inputs, short and long, right and damaged. Every field of every answer is
+ * compared, a refusal's too, which has nothing but its status. Every lent slice stands between guard bytes, and every byte of it is compared
+ * after every call. Prints what was tried; stops at the first difference. */
 #include "own.h"
 #include "register.h"
 #include <stdio.h>
@@ -38,10 +39,14 @@ enum { JUDGE, JUDGE_STRIP, BEST, NEXT, LIST, STACK, BANDS, VOLUME, TRIANGLES, WR
 static const char *const names[] = {"judge",       "judge_strip", "best",      "next",  "list_best", "judge_stack",
                                     "best_strips", "volume",      "triangles", "write", "read",      "listing"};
 
-static void told(int entry, unsigned number) {
+_Static_assert(sizeof(struct register_status) == 16 && offsetof(struct register_status, place) == 8, "a status lies as the proofs have it");
+
+/* what an answer begins with */
+static void told(int entry, struct register_status status, struct own_answer due) {
     tried++;
     what = names[entry];
-    answers[entry][number <= 100 ? number : 0]++;
+    SAME(status.number == due.number && status.place == due.place, "number or place");
+    answers[entry][due.number]++;
 }
 
 /* ---- lent memory */
@@ -141,20 +146,18 @@ static int32_t ca[1200], cb[1200];
 
 static void try_judge(const int32_t *c, size_t len) {
     struct register_trace_answer r = register_judge(c, len);
-    told(JUDGE, r.number);
-    int f = own_fault(c, len);
-    SAME(r.number == f && r.place == 0, "the fault");
-    SAME(f || (r.area == own_area(c, len / 2) && r.count == len / 2), "area or count");
+    struct own_answer f = {own_fault(c, len), 0};
+    told(JUDGE, r.status, f);
+    SAME(r.area == (f.number ? 0 : own_area(c, len / 2)) && r.count == (f.number ? 0 : len / 2), "area or count");
 }
 
 static void try_judge_strip(size_t la, size_t lb, const uint8_t *s, size_t len) {
     struct register_answer r = register_judge_strip(ca, la, cb, lb, s, len);
-    told(JUDGE_STRIP, r.number);
     struct own_answer f = own_pair_fault(ca, la, cb, lb);
     if (f.number == 0 && !own_is_strip(s, len, la / 2, lb / 2))
         f.number = 9;
-    SAME(r.number == f.number && r.place == f.place, "the refusal");
-    SAME(f.number || r.value == own_value(ca, la / 2, cb, lb / 2, s), "the value");
+    told(JUDGE_STRIP, r.status, f);
+    SAME(r.value == (f.number ? 0 : own_value(ca, la / 2, cb, lb / 2, s)), "the value");
 }
 
 /* a next one, from the bytes at the front; answers the number */
@@ -163,7 +166,6 @@ static unsigned try_next(size_t la, size_t lb, struct slice *strip, struct slice
     memcpy(strip->was, strip->at, strip->bytes);
     memcpy(work->was, work->at, work->bytes);
     struct register_answer r = register_next(ca, la, cb, lb, strip->at, strip->bytes, work->at, work->bytes);
-    told(NEXT, r.number);
     struct own_answer f = own_pair_fault(ca, la, cb, lb);
     size_t here = own.count;
     if (f.number == 0 && !room)
@@ -176,19 +178,19 @@ static unsigned try_next(size_t la, size_t lb, struct slice *strip, struct slice
                 break;
         f.number = here == own.count ? 10 : here + 1 == own.count ? 100 : 0;
     }
-    SAME(r.number == f.number && r.place == f.place, "number or place");
-    if (f.number == 0) {
-        SAME(r.value == own.best, "the value");
+    told(NEXT, r.status, f);
+    SAME(r.value == (f.number ? 0 : own.best), "the value");
+    if (f.number == 0)
         SAME(memcmp(strip->at, own.strips + (here + 1) * (m + n), m + n) == 0, "the next strip");
-    }
     kept(strip, f.number == 0 ? m + n : 0, "bytes of the strip slice");
     if (f.number == 0 || f.number == 100)
         SAME(all_zero(work->at, (m + 1) * (n + 1)), "used work bytes");
     kept(work, f.number == 0 || f.number == 100 ? (m + 1) * (n + 1) : 0, "bytes of the work slice");
-    return r.number;
+    return r.status.number;
 }
 
-static void try_list(size_t la, size_t lb, size_t limit, int whole) {
+/* `own` has all best strips, or more than the limit */
+static void try_list(size_t la, size_t lb, size_t limit) {
     size_t m = la / 2, n = lb / 2;
     struct slice lines, work;
     int short_lines = below(9) == 0, short_work = below(9) == 0;
@@ -196,23 +198,17 @@ static void try_list(size_t la, size_t lb, size_t limit, int whole) {
     short_lines = lines.bytes < limit * (m + n);
     lend(&work, (m + 1) * (n + 1) - short_work + (short_work ? 0 : below(4)));
     struct register_run_answer r = register_list_best(ca, la, cb, lb, lines.at, lines.bytes, work.at, work.bytes, limit);
-    told(LIST, r.number);
     struct own_answer f = own_pair_fault(ca, la, cb, lb);
     if (f.number == 0 && (short_lines || short_work))
         f.number = 8;
-    SAME(r.number == f.number && r.place == f.place, "number or place");
-    if (f.number) {
-        kept(&lines, 0, "bytes of the lines");
-        kept(&work, 0, "bytes of the work slice");
-    } else {
-        size_t count = own.count < limit ? own.count : limit;
-        SAME(r.value == own.best && r.count == count, "value or count");
-        SAME(!whole || r.more == (own.count > limit), "whether some remain");
-        SAME(memcmp(lines.at, own.strips, count * (m + n)) == 0, "the strips");
-        kept(&lines, count * (m + n), "bytes behind the strips");
-        SAME(all_zero(work.at, (m + 1) * (n + 1)), "used work bytes");
-        kept(&work, (m + 1) * (n + 1), "bytes behind the work");
-    }
+    told(LIST, r.status, f);
+    size_t count = f.number ? 0 : own.count < limit ? own.count : limit, cells = f.number ? 0 : (m + 1) * (n + 1);
+    SAME(r.value == (f.number ? 0 : own.best) && r.count == count, "value or count");
+    SAME(r.more == (f.number == 0 && own.count > limit), "whether some remain");
+    SAME(memcmp(lines.at, own.strips, count * (m + n)) == 0, "the strips");
+    kept(&lines, count * (m + n), "bytes of the lines");
+    SAME(all_zero(work.at, cells), "used work bytes");
+    kept(&work, cells, "bytes of the work slice");
     give_back(&lines);
     give_back(&work);
 }
@@ -236,13 +232,13 @@ static void try_pair(size_t m, size_t n, int spoil) {
     lend(&strip, m + n - short_strip + (short_strip ? 0 : below(4)));
     lend(&work, (m + 1) * (n + 1) - short_work + (short_work ? 0 : below(4)));
     struct register_answer r = register_best(ca, la, cb, lb, strip.at, strip.bytes, work.at, work.bytes);
-    told(BEST, r.number);
     int room = !short_strip && !short_work;
     if (f.number == 0 && !room)
         f.number = 8;
-    SAME(r.number == f.number && r.place == f.place, "number or place");
+    told(BEST, r.status, f);
+    SAME(r.value == (f.number ? 0 : own.best), "the value");
     if (f.number == 0) {
-        SAME(r.value == own.best && memcmp(strip.at, own.strips, m + n) == 0, "value or strip");
+        SAME(memcmp(strip.at, own.strips, m + n) == 0, "the strip");
         SAME(all_zero(work.at, (m + 1) * (n + 1)), "used work bytes");
     }
     kept(&strip, f.number ? 0 : m + n, "bytes of the strip slice");
@@ -273,10 +269,7 @@ static void try_pair(size_t m, size_t n, int spoil) {
             try_judge_strip(la, lb, strip.at, below(6) ? m + n : m + n - 1);
             try_next(la, lb, &strip, &work, 1);
         }
-    if (small || f.number)
-        try_list(la, lb, below(12), 1);
-    else
-        try_list(la, lb, below(300), own.count < 301);
+    try_list(la, lb, below(small || f.number ? 12 : 300));
     give_back(&strip);
     give_back(&work);
 }
@@ -305,8 +298,8 @@ static const struct register_layer *lend_layers(size_t layers) {
     return e;
 }
 
-static void told_of_layers(int entry, unsigned number) {
-    told(entry, number);
+static void told_of_layers(int entry, struct register_status status, struct own_answer due) {
+    told(entry, status, due);
     kept(&entries, 0, "the lent layers");
 }
 
@@ -322,12 +315,13 @@ static size_t make_stack(size_t layers, size_t most, int spoil) {
         plane += 1 + (int32_t)below(50);
     }
     size_t len = 2 * points;
-    if (spoil && layers > 0 && layers <= 20)
+    struct own_layer *e = &es[below(layers < 20 ? layers : 20)];
+    if (spoil && layers > 0)
         switch (below(7)) {
-        case 0: es[below(layers)].plane = below(2) ? 100001 : -100001; break;
-        case 1: es[below(layers)].plane = es[0].plane; break;
-        case 2: es[below(layers)].first += 1 + below(3); break;
-        case 3: es[below(layers)].count = below(2) ? SIZE_MAX : 0; break;
+        case 0: e->plane = below(2) ? 100001 : -100001; break;
+        case 1: e->plane = es[0].plane; break;
+        case 2: e->first += 1 + below(3); break;
+        case 3: e->count = below(2) ? SIZE_MAX : 0; break;
         case 4: len--; break;
         default: break;
         }
@@ -359,13 +353,12 @@ static void try_bands(const struct register_layer *st, size_t layers, size_t len
     lend(&strips, steps - short_strips);
     lend(&work, f.number ? 60 : most - short_work);
     struct register_steps_answer r = register_best_strips(st, layers, cs, len, strips.at, strips.bytes, work.at, work.bytes);
-    told_of_layers(BANDS, r.number);
     if (f.number == 0 && (short_strips || short_work))
         f.number = 8;
-    SAME(r.number == f.number && r.place == f.place, "number or place");
+    told_of_layers(BANDS, r.status, f);
+    SAME(r.steps == (f.number ? 0 : steps), "the number of steps");
     if (f.number == 0) {
         size_t at = 0;
-        SAME(r.steps == steps, "the number of steps");
         for (size_t k = 0; k + 1 < layers; k++) {
             own_best_by_table(&own, cs + 2 * es[k].first, es[k].count, cs + 2 * es[k + 1].first, es[k + 1].count, 1);
             SAME(memcmp(strips.at + at, own.strips, es[k].count + es[k + 1].count) == 0, "a band's strip");
@@ -384,24 +377,20 @@ static void try_triangles(const struct register_layer *st, size_t layers, size_t
     if (g.number == 0)
         g = own_strips_fault(es, layers, ss, steps);
     struct register_answer v = register_volume(st, layers, cs, len, ss, steps);
-    told_of_layers(VOLUME, v.number);
-    SAME(v.number == g.number && v.place == g.place, "number or place");
+    told_of_layers(VOLUME, v.status, g);
+    size_t t = g.number ? 0 : own_triangles(es, layers, ss, ts);
+    __int128 six = g.number ? 0 : own_six(es, layers, cs, ts, t);
+    SAME(v.value == six, "six times the volume");
     size_t count = f.number ? 0 : own_steps(es, layers) + es[0].count - 2 + es[layers - 1].count - 2;
     int short_out = f.number == 0 && below(9) == 0;
     struct slice out;
     lend(&out, 4 * (3 * count - short_out + (short_out ? 0 : below(4))));
     struct register_mesh_answer r = register_triangles(st, layers, cs, len, ss, steps, (uint32_t *)out.at, out.bytes / 4);
-    told_of_layers(TRIANGLES, r.number);
     if (f.number == 0 && short_out)
         g.number = 8, g.place = 0;
-    SAME(r.number == g.number && r.place == g.place, "number or place");
-    if (v.number == 0) {
-        size_t t = own_triangles(es, layers, ss, ts);
-        __int128 six = own_six(es, layers, cs, ts, t);
-        SAME((__int128)v.value == six, "six times the volume");
-        if (g.number == 0)
-            SAME(r.triangles == t && (__int128)r.six == six && memcmp(out.at, ts, 12 * t) == 0, "the closed list");
-    }
+    told_of_layers(TRIANGLES, r.status, g);
+    SAME(r.triangles == (g.number ? 0 : t) && r.six == (g.number ? 0 : six), "triangles or six times the volume");
+    SAME(g.number || (t == count && memcmp(out.at, ts, 12 * t) == 0), "the closed list");
     kept(&out, g.number ? 0 : 12 * count, "numbers of the list");
     give_back(&out);
 }
@@ -417,16 +406,16 @@ static void try_file(const struct register_layer *st, size_t layers, size_t len,
     struct slice out;
     lend(&out, f.number ? below(2000) : 512 * blocks - short_out + (short_out ? 0 : below(700)));
     struct register_bytes_answer r = register_write(st, layers, cs, len, ss, steps, out.at, out.bytes);
-    told_of_layers(WRITE, r.number);
     if (f.number == 0 && short_out)
         g.number = 8, g.place = 0;
-    SAME(r.number == g.number && r.place == g.place, "number or place");
+    told_of_layers(WRITE, r.status, g);
+    SAME(r.bytes == (g.number ? 0 : 512 * blocks), "the number of bytes");
     kept(&out, g.number ? 0 : 512 * blocks, "bytes of the file's slice");
     if (g.number == 0) {
         struct own_bytes k = {contents, 0}, o = {file, 0};
         own_contents(&k, es, layers, cs, ss);
         own_seal(&o, contents, k.len, blocks);
-        SAME(r.bytes == o.len && memcmp(out.at, file, o.len) == 0, "the file");
+        SAME(o.len == r.bytes && memcmp(out.at, file, o.len) == 0, "the file");
         same_read(file, o.len);
         for (int t = 0; t < 12; t++) {
             /* damaged: as it is, or with right checks again */
@@ -447,6 +436,8 @@ static void try_file(const struct register_layer *st, size_t layers, size_t len,
                     size_t i = below(3) ? below(l) : below(60 < l ? 60 : l);
                     other[i] = below(2) ? (uint8_t)rnd() : (uint8_t)below(3);
                 }
+                if (t == 10)
+                    other[0] = (uint8_t)(below(2) ? below(2) : 21 + below(235)), other[1] = (uint8_t)(below(2) ? below(256) : 0);
                 if (t == 6 && 508 * blocks > l)
                     other[l + below(508 * blocks - l)] = 1;
                 size_t b = blocks + (t == 7) + (t == 8 ? 90 : 0);
@@ -482,17 +473,17 @@ static void same_read(const uint8_t *f, size_t len) {
     struct register_layer *read = (struct register_layer *)lent[0].at;
     struct register_file_answer r = register_read(f, len, read, lent[0].bytes / width[0], (int32_t *)lent[1].at, lent[1].bytes / 4,
                                                   lent[2].at, lent[2].bytes);
-    told(READ, r.number);
     struct own_answer g = want.refused;
     if (g.number == 0 && !room)
         g.number = 8;
     if (g.number == 0)
         g = want.strip;
-    SAME(r.number == g.number && r.place == g.place, "number or place");
+    told(READ, r.status, g);
+    SAME(r.layers == (g.number ? 0 : want.layers), "the number of layers");
+    SAME(r.points == (g.number ? 0 : want.points) && r.steps == (g.number ? 0 : want.steps), "points or steps");
     for (int k = 0; k < 3; k++)
         kept(&lent[k], g.number ? 0 : need[k] * width[k], "what is lent for reading");
     if (g.number == 0) {
-        SAME(r.layers == want.layers && r.points == want.points && r.steps == want.steps, "the numbers");
         for (size_t k = 0; k < want.layers; k++)
             SAME(read[k].plane == want.es[k].plane && read[k].first == want.es[k].first && read[k].count == want.es[k].count, "an entry");
         SAME(memcmp(lent[1].at, wanted, 8 * want.points) == 0 && memcmp(lent[2].at, want.s, want.steps) == 0, "coordinates or steps");
@@ -502,14 +493,13 @@ static void same_read(const uint8_t *f, size_t len) {
 }
 
 static void try_stack(size_t most, int spoil) {
-    size_t layers = below(12) == 0 ? below(4) == 0 ? 21 + below(3) : below(2) : 2 + below(below(8) ? 3 : 19);
+    size_t layers = below(12) ? 2 + below(below(8) ? 3 : 19) : below(2) ? 21 + below(below(2) ? 3 : 1000) : below(2);
     size_t len = make_stack(layers, most, spoil);
     const struct register_layer *st = lend_layers(layers);
     struct own_answer f = own_stack_fault(es, layers, cs, len);
     struct register_stack_answer r = register_judge_stack(st, layers, cs, len);
-    told_of_layers(STACK, r.number);
-    SAME(r.number == f.number && r.place == f.place, "number or place");
-    SAME(f.number || (r.points == len / 2 && r.steps == own_steps(es, layers)), "points or steps");
+    told_of_layers(STACK, r.status, f);
+    SAME(r.points == (f.number ? 0 : len / 2) && r.steps == (f.number ? 0 : own_steps(es, layers)), "points or steps");
     size_t steps = 30;
     if (f.number == 0) {
         steps = own_steps(es, layers);
@@ -580,11 +570,14 @@ static void try_listing(size_t m, size_t n, int spoil) {
         }
         w += (size_t)sprintf(printed + w, own.count > 1000 ? "more\n" : "end\n");
     }
+    /* a refusal of the text is printed, and the answer is 0 then too */
     struct slice out;
-    lend(&out, 501047 + below(3));
+    f.number = below(9) ? 0 : 8, f.place = 0;
+    lend(&out, f.number ? 501046 - below(3) * below(501047) / 2 : 501047 + below(3));
     struct register_bytes_answer r = register_listing((const uint8_t *)text, t, out.at, out.bytes);
-    told(LISTING, r.number);
-    SAME(r.number == 0 && r.bytes == w && memcmp(out.at, printed, w) == 0, "the text");
+    told(LISTING, r.status, f);
+    w = f.number ? 0 : w;
+    SAME(r.bytes == w && memcmp(out.at, printed, w) == 0, "the text");
     kept(&out, w, "bytes behind the text");
     give_back(&out);
 }

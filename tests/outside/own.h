@@ -233,6 +233,10 @@ static size_t own_steps(const struct own_layer *es, size_t layers) {
 
 static struct own_answer own_strips_fault(const struct own_layer *es, size_t layers, const uint8_t *s, size_t len) {
     struct own_answer r = {0, 0};
+    if (layers < 2 || layers > 20) {
+        r.number = 11;
+        return r;
+    }
     if (len != own_steps(es, layers)) {
         r.number = 9;
         return r;

@@ -237,9 +237,9 @@ static void say_hand(const struct drawn *d) {
 /* with these strips all is refused, and no lent byte is touched; a file is tried only where nothing is asked of what came back before */
 static void say_none(const struct drawn *d, const uint8_t *s, size_t len, size_t t, size_t bytes) {
     struct own_answer r = own_strips_fault(d->es, d->layers, s, len);
-    fprintf(text, "volume;triangles %zu 0 0", 3 * t);
-    say_refusal(r);
-    say_refusal(r);
+    fprintf(text, "judge_strips;volume;triangles %zu 0 0", 3 * t);
+    for (int k = 0; k < 3; k++)
+        say_refusal(r);
     fprintf(come, " kept");
     if (bytes) {
         fprintf(text, ";write %zu 0", bytes);
@@ -249,19 +249,22 @@ static void say_none(const struct drawn *d, const uint8_t *s, size_t len, size_t
     fprintf(text, "]");
 }
 
-static void say_read(const uint8_t *f, size_t len, const size_t lent[5]) {
+/* room for every file */
+static const size_t enough[3] = {20, 10000, 9500};
+
+/* with room for so many entries, numbers and steps; a stack that comes back is empty behind its layers, which `kept` says too */
+static void say_read(const uint8_t *f, size_t len, const size_t room[3]) {
     static struct own_read r;
     static int32_t c[4000];
     static uint8_t opened[4000];
     r.c = c;
     own_read(&r, f, len, opened);
     struct own_answer g = r.refused;
-    for (int k = 0; g.number == 0 && k < 5; k++)
-        if (lent[k] < (k < 3 ? r.layers : k == 3 ? 2 * r.points : r.steps))
-            g = refusal(8, 0);
+    if (g.number == 0 && (room[0] < r.layers || room[1] < 2 * r.points || room[2] < r.steps))
+        g = refusal(8, 0);
     if (g.number == 0)
         g = r.strip;
-    fprintf(text, "read %zu %zu %zu %zu %zu", lent[0], lent[1], lent[2], lent[3], lent[4]);
+    fprintf(text, "read %zu %zu %zu", room[0], room[1], room[2]);
     if (g.number) {
         fprintf(text, " 0 0 0]");
         say_refusal(g);
@@ -272,14 +275,15 @@ static void say_read(const uint8_t *f, size_t len, const size_t lent[5]) {
     fprintf(come, " kept");
 }
 
+/* the strips in hand are those of an earlier row: they are judged only where the number of layers is refused before they are looked at */
 static void say_unfit(struct own_answer f) {
-    static const char *const calls[] = {"judge_stack", "best_strips 340 64 0 0", "volume", "triangles 24 0 0", "write 512 0"};
+    static const char *const calls[] = {"judge_stack", "best_strips 340 64 0 0", "volume", "triangles 24 0 0", "write 512 0", "judge_strips"};
     refused++;
-    for (int k = 0; k < 5; k++) {
+    for (int k = 0; k < (f.number == 11 ? 6 : 5); k++) {
         BOTH("%s %.*s", k ? "," : "", (int)strcspn(calls[k], " "), calls[k]);
         fprintf(text, "[%s]", calls[k]);
         say_refusal(f);
-        if (k == 1 || k > 2)
+        if (k == 1 || k == 3 || k == 4)
             fprintf(come, " kept");
     }
     BOTH("\n");
@@ -348,20 +352,20 @@ static size_t say_solid(const struct drawn *d, const uint8_t *s, size_t t, size_
     return o.len;
 }
 
-/* the file read: each of the five slices in turn one short, all longer than needed, and with a byte altered. From the steps that came back,
- * strips that are none */
+/* the file read: each of the three rooms in turn one too small, all larger than needed, and with a byte altered. From the steps that came
+ * back, strips that are none */
 static void say_files(const struct drawn *d, uint8_t *s, size_t bytes, size_t steps, size_t t, uint64_t seed) {
-    const size_t need[5] = {d->layers, d->layers, d->layers, d->numbers, steps}, most[5] = {20, 20, 20, 10000, 9500};
+    const size_t need[3] = {d->layers, d->numbers, steps};
     BOTH(", read");
-    for (int turn = 0; turn < 5; turn++) {
-        size_t lent[5];
-        for (int k = 0; k < 5; k++)
-            lent[k] = need[k] - (k == turn);
+    for (int turn = 0; turn < 3; turn++) {
+        size_t room[3];
+        for (int k = 0; k < 3; k++)
+            room[k] = need[k] - (k == turn);
         fprintf(text, "[");
-        say_read(file, bytes, lent);
+        say_read(file, bytes, room);
     }
     fprintf(text, "[");
-    say_read(file, bytes, most);
+    say_read(file, bytes, enough);
     fprintf(text, "[same_stack %zu;same_coords %zu;same_strips %zu]", d->layers, d->numbers, steps);
     fprintf(come, " same same same");
     s[steps] = 7;
@@ -376,14 +380,13 @@ static void say_files(const struct drawn *d, uint8_t *s, size_t bytes, size_t st
     uint8_t right = file[at];
     file[at] = other(right, seed);
     fprintf(text, "[byte %zu %d;", at, file[at]);
-    say_read(file, bytes, most);
+    say_read(file, bytes, enough);
     file[at] = right;
 }
 
 /* the contents of a file of one block with a byte altered to a small number or near 255, sealed again */
 static void say_sealed(uint64_t seed) {
     static const uint8_t to[] = {0, 1, 2, 3, 4, 255, 254, 253};
-    const size_t most[5] = {20, 20, 20, 10000, 9500};
     static uint8_t contents[508], again[512];
     BOTH(", sealed again");
     for (int k = 0; k < 3; k++) {
@@ -395,7 +398,7 @@ static void say_sealed(uint64_t seed) {
         own_seal(&o, contents, 508, 1);
         fprintf(text, "[write 512 512;take_file 508;byte %zu %d;seal;", at, contents[at]);
         fprintf(come, " 512 kept");
-        say_read(again, 512, most);
+        say_read(again, 512, enough);
     }
 }
 

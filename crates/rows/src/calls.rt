@@ -114,14 +114,14 @@ fn best_strips(stack: Stack, words: Words, coords: &[i32]) -> [u8; 50_688] {
     match bands::best_strips(
         stack,
         coords,
-        lend(&mut lent, words.e),
-        lend(&mut work, words.f),
+        lend(&mut lent, words.c),
+        lend(&mut work, words.d),
     ) {
         Banded::Steps(steps) => tell(steps),
         Banded::Refused(refusal) => refuse(refusal),
     }
     say_if(
-        bytes_are(&lent, words.g, 50_688, 7) & work_kept(&work, words.h),
+        bytes_are(&lent, words.e, 50_688, 7) & work_kept(&work, words.f),
         b" kept",
     );
     lent
@@ -134,22 +134,22 @@ pub(crate) fn work_kept(work: &[u8], cells: usize) -> bool {
 
 // `triangles NUMBERS USED TOLD`: the answer, or so many numbers of the list alone.
 fn triangles(stack: Stack, words: Words, coords: &[i32], strips: &[u8]) {
-    let told = words.h;
+    let told = words.f;
     let mut list = [7u32; 29_990];
-    let answer = mesh::triangles(stack, coords, strips, lend_vertices(&mut list, words.f));
+    let answer = mesh::triangles(stack, coords, strips, lend_vertices(&mut list, words.d));
     if told == 0 {
         tell_triangles(answer);
     }
-    say_if(vertices_kept(&list, words.g, told) & (told == 0), b" kept");
+    say_if(vertices_kept(&list, words.e, told) & (told == 0), b" kept");
 }
 
 // `write BYTES USED`
 fn write(stack: Stack, words: Words, coords: &[i32], strips: &[u8]) -> [u8; 50_688] {
     let mut lent = [7u8; 50_688];
-    match register::write(stack, coords, strips, lend(&mut lent, words.g)) {
+    match register::write(stack, coords, strips, lend(&mut lent, words.e)) {
         Written::Bytes(bytes) => tell(bytes),
         Written::Refused(refusal) => refuse(refusal),
     }
-    say_if(bytes_are(&lent, words.h, 50_688, 7), b" kept");
+    say_if(bytes_are(&lent, words.f, 50_688, 7), b" kept");
     lent
 }

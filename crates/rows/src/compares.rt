@@ -20,30 +20,30 @@ pub(crate) fn compare(desk: Desk, words: Words) {
     match name {
         // same_stack LAYERS
         72_568_443_469 => {
-            same = same_layers(desk.entries, desk.stack, 0, words.h);
+            same = same_layers(desk.entries, desk.stack, 0, words.f);
         }
         // same_coords NUMBERS
         725_682_800_187 => {
             let numbers = desk.numbers;
             let coords = desk.coords;
-            same = same_coords(numbers, coords, words.h);
+            same = same_coords(numbers, coords, words.f);
         }
         // same_strips STEPS
         725_684_452_407 => {
             let strips = desk.strips;
-            same = same_bytes(lent, strips, words.h);
+            same = same_bytes(lent, strips, words.f);
         }
         // same_file BYTES
         7_256_830_353 => {
             let file = desk.file;
-            same = same_bytes(lent, file, words.h);
+            same = same_bytes(lent, file, words.f);
         }
         // sum N
-        7_451 => tell(sum(lent, words.h)),
+        7_451 => tell(sum(lent, words.f)),
         // pairs M N
-        695_427 => pairs(words.g, words.h),
+        695_427 => pairs(words.e, words.f),
         // print FROM TO
-        712_388 => print(lent, words.g, words.h),
+        712_388 => print(lent, words.e, words.f),
         _ => {
             say(b"what? ");
             tell(name);

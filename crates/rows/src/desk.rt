@@ -7,7 +7,10 @@ use crate::reads::read;
 use crate::reads::seal;
 use crate::words::Words;
 use crate::words::signed;
+use stack::Layer;
 use stack::Stack;
+use stack::no_layers;
+use stack::with_layer;
 use std::num::wrapping_add_usize;
 
 pub(crate) struct Desk {
@@ -21,24 +24,14 @@ pub(crate) struct Desk {
     pub(crate) many_file: usize,
     pub(crate) base: [u8; 50_688],
     pub(crate) many_base: usize,
-    // What came back: entries, coordinates, and strips or a file.
+    // What came back: a stack, coordinates, and strips or a file.
     pub(crate) entries: Stack,
     pub(crate) numbers: [i32; 10_000],
     pub(crate) lent: [u8; 50_688],
 }
 
-// Every element of a stack alike.
-pub(crate) fn level(plane: i32, place: usize) -> Stack {
-    Stack {
-        plane: [plane; 20],
-        first: [place; 20],
-        count: [place; 20],
-        layers: 20,
-    }
-}
-
 pub(crate) fn clear() -> Desk {
-    let stack = level(0, 0);
+    let stack = no_layers(0);
     Desk {
         stack,
         coords: [0; 10_000],
@@ -72,47 +65,45 @@ pub(crate) fn command(mut desk: Desk, words: Words) -> Desk {
             desk.coords = coords;
             desk.many_coords = wrapping_add_usize(
                 desk.many_coords,
-                wrapping_add_usize(words.d, words.d),
+                wrapping_add_usize(words.b, words.b),
             );
         }
         // coords N
         5_800_187 => {
-            desk.many_coords = words.h;
+            desk.many_coords = words.f;
         }
-        // take_stack LAYERS NUMBERS
+        // take_stack NUMBERS
         73_548_443_469 => {
-            let mut stack = desk.entries;
-            stack.layers = words.g;
+            let entries = desk.entries;
             let numbers = desk.numbers;
-            desk.stack = stack;
+            desk.stack = entries;
             desk.coords = numbers;
-            desk.many_coords = words.h;
+            desk.many_coords = words.f;
         }
         _ => return taken(desk, words),
     }
     desk
 }
 
-fn layer(mut stack: Stack, words: Words) -> Stack {
-    let k = words.d;
-    if k < 20 {
-        let plane = signed(words.e);
-        stack.plane[k] = plane;
-        stack.first[k] = words.f;
-        stack.count[k] = words.g;
-    }
-    stack.layers = words.h;
-    stack
+fn layer(stack: Stack, words: Words) -> Stack {
+    let layer = Layer {
+        plane: signed(words.c),
+        first: words.d,
+        count: words.e,
+    };
+    let mut with = with_layer(stack, words.b, layer);
+    with.count = words.f;
+    with
 }
 
 fn line(mut coords: [i32; 10_000], at: usize, words: Words) -> [i32; 10_000] {
-    put_run(&mut coords, at, words.d, words.e, words.g);
+    put_run(&mut coords, at, words.b, words.c, words.e);
     put_run(
         &mut coords,
         wrapping_add_usize(at, 1),
+        words.b,
         words.d,
         words.f,
-        words.h,
     );
     coords
 }
@@ -137,13 +128,13 @@ fn taken(mut desk: Desk, words: Words) -> Desk {
         735_484_452_407 => {
             let lent = desk.lent;
             desk.strips = lent;
-            desk.many_strips = words.h;
+            desk.many_strips = words.f;
         }
         // take_file N
         7_354_830_353 => {
             let lent = desk.lent;
             desk.file = lent;
-            desk.many_file = words.h;
+            desk.many_file = words.f;
         }
         _ => return set(desk, words),
     }
@@ -157,24 +148,24 @@ fn set(mut desk: Desk, words: Words) -> Desk {
         // step AT BYTE
         74_394 => {
             let old = desk.strips;
-            let strips = put(old, words.g, words.h);
+            let strips = put(old, words.e, words.f);
             desk.strips = strips;
         }
         // byte AT BYTE
         58_033 => {
             let old = desk.file;
-            let file = put(old, words.g, words.h);
+            let file = put(old, words.e, words.f);
             desk.file = file;
         }
         // strips N
         7_452_407 => {
             desk.strips = [0; 50_688];
-            desk.many_strips = words.h;
+            desk.many_strips = words.f;
         }
         // file N
         60_353 => {
             desk.file = [0; 50_688];
-            desk.many_file = words.h;
+            desk.many_file = words.f;
         }
         // read, seal, files
         71_842 => return read(desk, words),

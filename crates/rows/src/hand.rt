@@ -16,22 +16,18 @@ use trace::Judgement;
 
 // `judge FROM TO`
 pub(crate) fn judge(coords: &[i32], words: Words) {
-    match trace::judge(part(coords, words.g, words.h)) {
+    match trace::judge(part(coords, words.e, words.f)) {
         Judgement::Fit { area, count } => {
             tell_six(area);
             tell(count);
         }
-        Judgement::Unfit(fault) => {
-            say(b" refused");
-            tell(fault::number(fault) as usize);
-            tell(0);
-        }
+        Judgement::Unfit(fault) => refuse(fault::refuse(fault, 0)),
     }
 }
 
 // `judge_strip MIDDLE`
 pub(crate) fn judge_strip(coords: &[i32], words: Words, strips: &[u8]) {
-    let middle = words.h;
+    let middle = words.f;
     tell_valued(strip::judge_strip(
         part(coords, 0, middle),
         part(coords, middle, coords.len()),
@@ -48,48 +44,48 @@ fn tell_valued(answer: Valued) {
 
 // `best MIDDLE STRIPS WORK CELLS`
 pub(crate) fn best(coords: &[i32], words: Words) -> [u8; 50_688] {
-    let middle = words.e;
+    let middle = words.c;
     let mut lent = [7u8; 50_688];
     let mut work = [7u8; 64];
     tell_valued(joining::best(
         part(coords, 0, middle),
         part(coords, middle, coords.len()),
-        lend(&mut lent, words.f),
-        lend(&mut work, words.g),
+        lend(&mut lent, words.d),
+        lend(&mut work, words.e),
     ));
-    say_if(work_kept(&work, words.h), b" kept");
+    say_if(work_kept(&work, words.f), b" kept");
     lent
 }
 
 // `next MIDDLE STRIPS WORK CELLS`: the strips in hand are handed in.
 pub(crate) fn next(coords: &[i32], words: Words, mut lent: [u8; 50_688]) -> [u8; 50_688] {
-    let middle = words.e;
+    let middle = words.c;
     let mut work = [7u8; 64];
     match joining::next(
         part(coords, 0, middle),
         part(coords, middle, coords.len()),
-        lend(&mut lent, words.f),
-        lend(&mut work, words.g),
+        lend(&mut lent, words.d),
+        lend(&mut work, words.e),
     ) {
         Followed::Next(value) => tell_six(value),
         Followed::NoneLeft => say(b" none left"),
         Followed::Refused(refusal) => refuse(refusal),
     }
-    say_if(work_kept(&work, words.h), b" kept");
+    say_if(work_kept(&work, words.f), b" kept");
     lent
 }
 
 // `list_best MIDDLE LINES WORK LIMIT CELLS`
 pub(crate) fn list_best(coords: &[i32], words: Words) -> [u8; 50_688] {
-    let middle = words.d;
+    let middle = words.b;
     let mut lent = [7u8; 50_688];
     let mut work = [7u8; 64];
     match joining::list_best(
         part(coords, 0, middle),
         part(coords, middle, coords.len()),
-        lend(&mut lent, words.e),
-        lend(&mut work, words.f),
-        words.g,
+        lend(&mut lent, words.c),
+        lend(&mut work, words.d),
+        words.e,
     ) {
         Run::Lines { value, count, more } => {
             tell_six(value);
@@ -98,6 +94,6 @@ pub(crate) fn list_best(coords: &[i32], words: Words) -> [u8; 50_688] {
         }
         Run::Refused(refusal) => refuse(refusal),
     }
-    say_if(work_kept(&work, words.h), b" kept");
+    say_if(work_kept(&work, words.f), b" kept");
     lent
 }

@@ -4,6 +4,7 @@ use crate::words::signed;
 use stack::Layer;
 use stack::Stack;
 use stack::layer_at;
+use stack::no_layers;
 use std::num::wrapping_add_usize;
 
 // The bytes from `from` up to `to`; all, if they are not there.
@@ -16,7 +17,7 @@ pub(crate) fn part(list: &[u8], from: usize, to: usize) -> &[u8] {
     list
 }
 
-// The first `n` elements; all, if there are fewer. (So the next four.)
+// The first `n` elements; all, if there are fewer. (So the next three.)
 pub(crate) fn front_numbers(list: &[i32], n: usize) -> &[i32] {
     if n <= list.len() { &list[0..n] } else { list }
 }
@@ -38,14 +39,6 @@ pub(crate) fn lend_numbers(list: &mut [i32], n: usize) -> &mut [i32] {
 }
 
 pub(crate) fn lend_vertices(list: &mut [u32], n: usize) -> &mut [u32] {
-    if n <= list.len() {
-        &mut list[0..n]
-    } else {
-        list
-    }
-}
-
-pub(crate) fn lend_places(list: &mut [usize], n: usize) -> &mut [usize] {
     if n <= list.len() {
         &mut list[0..n]
     } else {
@@ -140,6 +133,13 @@ pub(crate) fn same_layers(one: Stack, other: Stack, from: usize, to: usize) -> b
         so = so & same_layer(layer_at(one, k), layer_at(other, k));
     }
     so
+}
+
+// Whether a stack counts so many layers, and its array is empty behind them. (`layer_at` reads of the array as much as is counted.)
+pub(crate) fn ends_after(mut stack: Stack, layers: usize) -> bool {
+    let counted = stack.count == layers;
+    stack.count = 20;
+    counted & same_layers(stack, no_layers(20), layers, 20)
 }
 
 fn same_layer(one: Layer, other: Layer) -> bool {

@@ -5,7 +5,7 @@
 // name and its numbers, always all of them; the first lines of the text list them. A word `#` makes a comment. The number of a name
 // that is no command is printed behind `what?`. A call prints the numbers of its answer, or `refused NUMBER PLACE`; the word before the
 // numbers (`fit`, `steps`) is the text's. Memory is lent full of the guard, 7, and `kept` says that every element that may not be used is
-// still it.
+// still it, and that a stack that came back has no more layers than it may.
 mod calls;
 mod compares;
 mod desk;

@@ -1,19 +1,18 @@
 // The commands on a file: `read`, `seal`, and `files`, which reads a file with every byte changed to every other value.
 use crate::desk::Desk;
-use crate::desk::level;
 use crate::lists::bytes_are;
+use crate::lists::ends_after;
 use crate::lists::lend;
 use crate::lists::lend_numbers;
-use crate::lists::lend_places;
 use crate::lists::numbers_kept;
 use crate::lists::part;
-use crate::lists::same_layers;
 use crate::says::refuse;
 use crate::says::say;
 use crate::says::say_if;
 use crate::says::tell;
 use crate::words::Words;
 use blocks::Sealing;
+use register::FileRead;
 use register::ReadBack;
 use stack::Stack;
 use std::num::wrapping_add_u8;
@@ -35,68 +34,39 @@ fn sealed(sealing: Sealing) -> usize {
     }
 }
 
-// `read PLANES FIRSTS COUNTS COORDINATES STEPS`, and what of it is used: `LAYERS NUMBERS STEPS`
+// `read ROOM COORDINATES STEPS`, and what of it is used: `LAYERS NUMBERS STEPS`
 pub(crate) fn read(mut desk: Desk, words: Words) -> Desk {
     let file = desk.file;
     let mut numbers = [7i32; 10_000];
     let mut lent = [7u8; 50_688];
-    let came = read_into(
+    let came = register::read(
         part(&file, 0, desk.many_file),
-        words,
-        lend_numbers(&mut numbers, words.d),
-        lend(&mut lent, words.e),
+        words.a,
+        lend_numbers(&mut numbers, words.b),
+        lend(&mut lent, words.c),
     );
-    let answer = came.answer;
-    let entries = came.entries;
-    tell_read(answer);
-    say_if(lists_kept(entries, words, &numbers, &lent), b" kept");
-    desk.entries = entries;
+    let stack = came.stack;
+    tell_read(came);
+    say_if(only_used(stack, words, &numbers, &lent), b" kept");
+    desk.entries = stack;
     desk.numbers = numbers;
     desk.lent = lent;
     desk
 }
 
-struct Came {
-    answer: ReadBack,
-    entries: Stack,
+// Whether all that was lent is the guard, but for what may be used, and the stack has so many layers and nothing behind them.
+fn only_used(stack: Stack, words: Words, numbers: &[i32], lent: &[u8]) -> bool {
+    ends_after(stack, words.d)
+        & numbers_kept(numbers, words.e)
+        & bytes_are(lent, words.f, lent.len(), 7)
 }
 
-fn read_into(file: &[u8], words: Words, numbers: &mut [i32], lent: &mut [u8]) -> Came {
-    let mut planes = [7i32; 20];
-    let mut firsts = [7usize; 20];
-    let mut counts = [7usize; 20];
-    let answer = register::read(
-        file,
-        lend_numbers(&mut planes, words.a),
-        lend_places(&mut firsts, words.b),
-        lend_places(&mut counts, words.c),
-        numbers,
-        lent,
-    );
-    let entries = Stack {
-        plane: planes,
-        first: firsts,
-        count: counts,
-        layers: 20,
-    };
-    Came { answer, entries }
-}
-
-// Whether all that was lent is the guard, but for what may be used.
-fn lists_kept(entries: Stack, words: Words, numbers: &[i32], lent: &[u8]) -> bool {
-    same_layers(entries, level(7, 7), words.f, 20)
-        & numbers_kept(numbers, words.g)
-        & bytes_are(lent, words.h, lent.len(), 7)
-}
-
-fn tell_read(answer: ReadBack) {
+fn tell_read(came: FileRead) {
+    let stack = came.stack;
+    let answer = came.answer;
     match answer {
-        ReadBack::Whole {
-            layers,
-            points,
-            steps,
-        } => {
-            tell(layers);
+        ReadBack::Whole { points, steps } => {
+            tell(stack.count);
             tell(points);
             tell(steps);
         }
@@ -139,9 +109,10 @@ fn raise(file: &mut [u8], at: usize) {
 fn tried(file: &[u8], words: Words) -> usize {
     let mut numbers = [7i32; 12];
     let mut steps = [7u8; 6];
-    let came = read_into(file, words, &mut numbers, &mut steps);
+    let came = register::read(file, words.a, &mut numbers, &mut steps);
+    let stack = came.stack;
     let answer = came.answer;
-    counted(answer, lists_kept(came.entries, words, &numbers, &steps))
+    counted(answer, only_used(stack, words, &numbers, &steps))
 }
 
 // What one file adds to the counts.

@@ -17,10 +17,10 @@ pub(crate) fn tell(n: usize) {
 }
 
 pub(crate) fn refuse(refusal: Refusal) {
-    let fault = refusal.fault;
+    let status = fault::refused(refusal);
     say(b" refused");
-    tell(fault::number(fault) as usize);
-    tell(refusal.place);
+    tell(status.number as usize);
+    tell(status.place);
 }
 
 // A value, or six times a volume; no row has one below zero.

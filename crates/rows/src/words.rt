@@ -14,7 +14,7 @@ pub(crate) struct Words {
     // The word that is read.
     value: usize,
     minus: bool,
-    // The first word of the command, which is its name, and the last eight, `h` the last of all.
+    // The first word of the command, which is its name, and the last six, `f` the last of all.
     pub(crate) name: usize,
     pub(crate) a: usize,
     pub(crate) b: usize,
@@ -22,8 +22,6 @@ pub(crate) struct Words {
     pub(crate) d: usize,
     pub(crate) e: usize,
     pub(crate) f: usize,
-    pub(crate) g: usize,
-    pub(crate) h: usize,
 }
 
 // No word yet.
@@ -40,8 +38,6 @@ pub(crate) fn none(between: bool) -> Words {
         d: 0,
         e: 0,
         f: 0,
-        g: 0,
-        h: 0,
     }
 }
 
@@ -95,9 +91,7 @@ fn ended(words: Words, byte: u8) -> Words {
         c: words.d,
         d: words.e,
         e: words.f,
-        f: words.g,
-        g: words.h,
-        h: word,
+        f: word,
     }
 }
 
