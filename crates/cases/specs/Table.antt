@@ -11,7 +11,7 @@ use Rattle.trace.specs.Status.{judgementStatus}
 use Rattle.ways.specs.Strip.{Step, A, B}
 use Rattle.ways.specs.Strip as Ways
 use Rattle.ways.specs.Best.{Best, FirstBest, Listed}
-use Rattle.strip.specs.Worth.{W}
+use Rattle.strip.specs.Worth.{valueOf}
 use Rattle.strip.specs.Bytes.{bytes}
 use Rattle.strip.specs.Judging.{StripJudged}
 use Rattle.strip.specs.Status.{valuedStatus}
@@ -57,9 +57,9 @@ abbrev pub Holds : Row → Type 0
 Holds (judging c n) = Answered (Given c) judgementStatus n
 Holds (offering a b s n) = Answered (StripJudged a b (bytes s)) valuedStatus n
 Holds (valued a b s v) = StripJudged a b (bytes s) (Value v)
-Holds (best a b s) = Best (Ways.Strip (count a) (count b)) (W a b) s
-Holds (first a b s) = FirstBest (Ways.Strip (count a) (count b)) (W a b) s
-Holds (list a b l) = Listed (Ways.Strip (count a) (count b)) (W a b) l
+Holds (best a b s) = Best (Ways.Strip (count a) (count b)) (valueOf a b) s
+Holds (first a b s) = FirstBest (Ways.Strip (count a) (count b)) (valueOf a b) s
+Holds (list a b l) = Listed (Ways.Strip (count a) (count b)) (valueOf a b) l
 Holds (asking a b s n) = Answered (λ r. NextAnswer a b (bytes s) (replicate 16 7) (bytes s) (workAfter r) r) followedStatus n
 
 pub data AllHold : List Row → Type 0 where
@@ -84,7 +84,7 @@ turned = pos 0 ∷ pos 0 ∷ pos 0 ∷ pos 2 ∷ pos 2 ∷ pos 0 ∷ []
 abbrev pub flat : List ℤ
 flat = pos 0 ∷ pos 0 ∷ pos 1 ∷ pos 0 ∷ pos 2 ∷ pos 0 ∷ []
 
--- "T: the eight strips are best and W = 8 for each"
+-- "T: the eight strips are best and valueOf = 8 for each"
 abbrev pub eight : List Row
 eight =
     valued T T (B ∷ A ∷ B ∷ A ∷ B ∷ A ∷ []) (pos 8)
@@ -105,7 +105,7 @@ eight =
     ∷ best T T (A ∷ B ∷ A ∷ B ∷ A ∷ B ∷ [])
     ∷ []
 
--- "T, AAABBB: W = 0, a strip", "T, AAAABB: STRIP", "B of T started one point later .. first best ABABAB, W = 8"; and the traces above, alone
+-- "T, AAABBB: valueOf = 0, a strip", "T, AAAABB: STRIP", "B of T started one point later .. first best ABABAB, valueOf = 8"; and the traces above, alone
 -- and as the lower one of a pair, "place 0"
 abbrev pub others : List Row
 others =

@@ -12,7 +12,8 @@ use Rattle.whole.specs.Between.{Within}
 use Rattle.whole.proofs.Machine.{held, from, passed, plus, minus, times}
 use Rattle.ways.specs.Keppel.{maxℤ}
 use Rattle.joining.specs.declared.choice.Choice.{Choice}
-use Rattle.joining.specs.Table.{Arrays, Bounded, Small, along, Chosen}
+use Rattle.strip.specs.Arrays.{Arrays}
+use Rattle.joining.specs.Table.{Bounded, Small, along, Chosen}
 
 pub bool-byte : (t : Bool) → boolByte t ≤ 1
 bool-byte true = omega arith

@@ -4,7 +4,7 @@ use mathlib.Core.Bool.{Bool}
 use mathlib.Core.List.{List}
 use Prim.Native.Nat.{ℕ, _+_, _*_, _≤_}
 use native.Mathlib.Omega.{arith}
-use lib.IntN.{ℤ, _-ℤ_, _*ℤ_}
+use lib.IntN.{ℤ}
 use mir.Val.{boolByte}
 use Rattle.whole.proofs.Bounds.{between-sub}
 use Rattle.trace.specs.Points.{count}
@@ -13,19 +13,17 @@ use Rattle.trace.specs.declared.outline.Outline.{Outline}
 use Rattle.trace.specs.Outline.{fairly, Outlined}
 use Rattle.trace.proofs.PointLaws.{accepted-x, accepted-y}
 use Rattle.trace.proofs.OutlineLaws.{fairly-same, follows-within}
-use Rattle.strip.specs.Worth.{worthA, worthB, worths}
+use Rattle.strip.specs.Worth.{worths}
 use Rattle.ways.specs.Value.{Worths}
 use Rattle.ways.proofs.TopLaws.{Agree, top-agree, pointer-agree, alsoB-agree}
-use Rattle.joining.specs.Table.{Arrays, arrays, worthsOf, Bounded, markOf, Tabled}
+use Rattle.strip.specs.Arrays.{worthsOf}
+use Rattle.strip.proofs.ArrayLaws.{arraysOf, outline-A, outline-B}
+use Rattle.joining.specs.Table.{Bounded, markOf, Tabled}
 
 -- ---- a trace
 
 pub accepted-outline : {c : List ℤ} {p : Outline} → Accepted c → Outlined (fairly c) p → Outlined c p
 accepted-outline {p = p} a o = subst (λ (l : List ℤ). Outlined l p) (fairly-same a) o
-
--- its arrays
-abbrev arraysOf : Outline → Arrays
-arraysOf p = arrays (p .x) (p .y) (p .dx) (p .dy)
 
 pub outline-bounded : {c : List ℤ} {p : Outline} → Accepted c → Outlined c p → Bounded (arraysOf p)
 outline-bounded a o = record {
@@ -38,13 +36,7 @@ outline-bounded a o = record {
 -- ---- two traces
 
 pub outlines-agree : {a b : List ℤ} {p q : Outline} → Outlined a p → Outlined b q → Agree (worthsOf (arraysOf p) (arraysOf q)) (worths a b) (count a) (count b)
-unfolding worthA worthB
-outlines-agree o u = record {
-  onA = λ i j h k.
-      ap₂ _-ℤ_ (ap₂ _*ℤ_ (u .x .done j (omega arith)) (o .dy .done i h)) (ap₂ _*ℤ_ (u .y .done j (omega arith)) (o .dx .done i h));
-  onB = λ i j h k.
-      ap₂ _-ℤ_ (ap₂ _*ℤ_ (o .x .done i (omega arith)) (u .dy .done j k)) (ap₂ _*ℤ_ (o .y .done i (omega arith)) (u .dx .done j k));
-}
+outlines-agree o u = record { onA = outline-A o u; onB = outline-B o u }
 
 -- ---- as the functions hand them over, with m for the number of points
 

@@ -18,7 +18,8 @@ use Rattle.ways.specs.Keppel.{top, pointer, alsoB, maxℤ}
 use Rattle.ways.proofs.TopLaws.{top-left, top-cell, pointer-cell, alsoB-cell, pointer-left, alsoB-left, top-within}
 use Rattle.joining.specs.Cells.{cellOf, room, Put}
 use Rattle.joining.proofs.CellLaws.{room-fits}
-use Rattle.joining.specs.Table.{Arrays, worthsOf, Bounded, markOf, CellReady, CellDone, RowAt, RowMarked, Ready}
+use Rattle.strip.specs.Arrays.{Arrays, worthsOf}
+use Rattle.joining.specs.Table.{Bounded, markOf, CellReady, CellDone, RowAt, RowMarked, Ready}
 
 -- ---- the table's values are far inside an i64
 

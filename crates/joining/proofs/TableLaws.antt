@@ -16,7 +16,8 @@ use Rattle.ways.specs.Value.{Worths}
 use Rattle.ways.specs.Keppel.{top, pointer, alsoB}
 use Rattle.ways.proofs.TopLaws.{Agree, top-agree, top-origin, top-first, pointer-first, alsoB-left, alsoB-first}
 use Rattle.joining.specs.Cells.{cellOf, room, Put}
-use Rattle.joining.specs.Table.{Arrays, arrays, worthsOf, markOf, cellAt, BorderReady, BorderDone, RowAt, RowMarked, Ready, Tabled}
+use Rattle.strip.specs.Arrays.{Arrays, arrays, worthsOf}
+use Rattle.joining.specs.Table.{markOf, cellAt, BorderReady, BorderDone, RowAt, RowMarked, Ready, Tabled}
 use Rattle.joining.proofs.CellLaws.{room-fits}
 use Rattle.joining.proofs.RowLaws.{values-within, mark-cell}
 

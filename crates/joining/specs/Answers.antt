@@ -13,7 +13,7 @@ use Rattle.ways.specs.Strip.{Step}
 use Rattle.ways.specs.Strip as Ways
 use Rattle.ways.specs.Best.{Best, FirstBest, NextBest}
 use Rattle.ways.specs.Best as Ways-best
-use Rattle.strip.specs.Worth.{W}
+use Rattle.strip.specs.Worth.{valueOf}
 use Rattle.strip.specs.Bytes.{bytes, IsStrip}
 use Rattle.strip.specs.declared.Valued.{Valued}
 use Rattle.strip.specs.declared.Valued.the-variants.{Value}
@@ -26,16 +26,16 @@ abbrev pub Between : List ℤ → List ℤ → List Step → Type 0
 Between a b s = Ways.Strip (count a) (count b) s
 
 abbrev pub BestOf : List ℤ → List ℤ → List Step → Type 0
-BestOf a b s = Best (Between a b) (W a b) s
+BestOf a b s = Best (Between a b) (valueOf a b) s
 
 abbrev pub FirstOf : List ℤ → List ℤ → List Step → Type 0
-FirstOf a b s = FirstBest (Between a b) (W a b) s
+FirstOf a b s = FirstBest (Between a b) (valueOf a b) s
 
 abbrev pub NextOf : List ℤ → List ℤ → List Step → List Step → Type 0
-NextOf a b s t = NextBest (Between a b) (W a b) s t
+NextOf a b s t = NextBest (Between a b) (valueOf a b) s t
 
 abbrev pub NoneLeftOf : List ℤ → List ℤ → List Step → Type 0
-NoneLeftOf a b s = Ways-best.NoneLeft (Between a b) (W a b) s
+NoneLeftOf a b s = Ways-best.NoneLeft (Between a b) (valueOf a b) s
 
 -- "Room for a pair: m+n strip bytes, and (m+1)(n+1) work bytes"
 abbrev pub stripBytes : List ℤ → List ℤ → ℕ
@@ -77,7 +77,7 @@ pub data BestAnswer (a b : List ℤ) (strip work strip′ work′ : List ℕ) : 
   refused : {r : Refusal} → Stopped (bestGates a b strip work) r → Untouched strip work strip′ work′
       → BestAnswer a b strip work strip′ work′ (Valued.Refused r)
   best : Passed (bestGates a b strip work) → (s : List Step) → FirstOf a b s → Given a b s strip strip′ → Cleared a b work work′
-      → BestAnswer a b strip work strip′ work′ (Value (W a b s))
+      → BestAnswer a b strip work strip′ work′ (Value (valueOf a b s))
 
 -- `next`: the traces, then ROOM, STRIP, BELOW; else the strip that comes next after the one handed in, in its place, with the greatest
 -- value; or none left. "The strip handed in for a next one stands at the front of its slice".
@@ -89,6 +89,6 @@ pub data NextAnswer (a b : List ℤ) (strip work strip′ work′ : List ℕ) : 
   refused : {r : Refusal} → Stopped (nextGates a b strip work) r → Untouched strip work strip′ work′
       → NextAnswer a b strip work strip′ work′ (Refused r)
   next : Passed (nextGates a b strip work) → (s : HandedBest a b strip) → (t : List Step) → NextOf a b (s .handed .steps) t
-      → Given a b t strip strip′ → Cleared a b work work′ → NextAnswer a b strip work strip′ work′ (Next (W a b t))
+      → Given a b t strip strip′ → Cleared a b work work′ → NextAnswer a b strip work strip′ work′ (Next (valueOf a b t))
   noneLeft : Passed (nextGates a b strip work) → (s : HandedBest a b strip) → NoneLeftOf a b (s .handed .steps) → strip′ ≡ strip
       → Cleared a b work work′ → NextAnswer a b strip work strip′ work′ NoneLeft

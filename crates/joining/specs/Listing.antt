@@ -11,7 +11,7 @@ use Rattle.fault.specs.Gates.{Gate, unless, Stopped, Passed}
 use Rattle.strip.specs.Pair.{PairRefused}
 use Rattle.ways.specs.Strip.{Step}
 use Rattle.ways.specs.Best.{Listed}
-use Rattle.strip.specs.Worth.{W}
+use Rattle.strip.specs.Worth.{valueOf}
 use Rattle.strip.specs.Bytes.{bytes}
 use Rattle.joining.specs.declared.Run.{Run}
 use Rattle.joining.specs.declared.Run.the-variants.{Lines, Refused}
@@ -19,8 +19,8 @@ use Rattle.joining.specs.Answers.{Between, BestOf, stripBytes, workBytes
 
 -- l is the beginning of the whole list of best strips that a limit allows: all of it, or as many as the limit, and some remain
 pub data Beginning (a b : List ℤ) (limit : ℕ) (l : List (List Step)) : Bool → Type 0 where
-  all : Listed (Between a b) (W a b) l → length l ≤ limit → Beginning a b limit l false
-  some : (s : List Step) (rest : List (List Step)) → Listed (Between a b) (W a b) (l ++ s ∷ rest) → length l ≡ limit
+  all : Listed (Between a b) (valueOf a b) l → length l ≤ limit → Beginning a b limit l false
+  some : (s : List Step) (rest : List (List Step)) → Listed (Between a b) (valueOf a b) (l ++ s ∷ rest) → length l ≡ limit
       → Beginning a b limit l true
 
 -- strips one after the other
@@ -42,4 +42,4 @@ pub data ListAnswer (a b : List ℤ) (limit : ℕ) (lines work lines′ work′ 
       → ListAnswer a b limit lines work lines′ work′ (Refused r)
   listed : {more : Bool} → Passed (listGates a b limit lines work) → (l : List (List Step)) → Beginning a b limit l more
       → lines′ ≡ lined l ++ drop (length l * stripBytes a b) lines → Cleared a b work work′
-      → (s : List Step) → BestOf a b s → ListAnswer a b limit lines work lines′ work′ (Lines (W a b s) (length l) more)
+      → (s : List Step) → BestOf a b s → ListAnswer a b limit lines work lines′ work′ (Lines (valueOf a b s) (length l) more)

@@ -9,25 +9,9 @@ use mir.Val.{boolByte}
 use Rattle.whole.specs.Between.{Within}
 use Rattle.ways.specs.Value.{Worths}
 use Rattle.ways.specs.Keppel.{top, pointer, alsoB, maxℤ}
+use Rattle.strip.specs.Arrays.{Arrays, worthsOf}
 use Rattle.joining.specs.declared.choice.Choice.{Choice}
 use Rattle.joining.specs.Cells.{cellOf, room, Put}
-
--- the arrays of an outline: a trace's points, the first written again at the end, and its segments
-pub record Arrays : Type 0 where
-  pub x : List ℤ
-  pub y : List ℤ
-  pub dx : List ℤ
-  pub dy : List ℤ
-
-abbrev pub arrays : List ℤ → List ℤ → List ℤ → List ℤ → Arrays
-arrays x y dx dy = record { x = x; y = y; dx = dx; dy = dy }
-
--- the worths that two outlines give: the other side's point with the own segment
-abbrev pub worthsOf : Arrays → Arrays → Worths
-worthsOf p q = record {
-  worthA = λ i j. getD (q .x) j (pos 0) *ℤ getD (p .dy) i (pos 0) -ℤ getD (q .y) j (pos 0) *ℤ getD (p .dx) i (pos 0);
-  worthB = λ i j. getD (p .x) i (pos 0) *ℤ getD (q .dy) j (pos 0) -ℤ getD (p .y) i (pos 0) *ℤ getD (q .dx) j (pos 0);
-}
 
 -- points within 100,000 of zero, segments within 200,000
 pub record Bounded (p : Arrays) : Type 0 where

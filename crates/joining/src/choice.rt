@@ -1,7 +1,7 @@
 // One pair of the table: two ways to come, the greater value and the mark.
 ghost use mathlib.Core.Path.{_≡_};
 ghost use Rattle.joining.specs.Table.{Small, along, Chosen};
-use whole::cross;
+use strip::worth;
 
 pub(crate) struct Choice {
     pub best: i64,
@@ -13,7 +13,7 @@ pub(crate) fn via(before: i64, ox: i32, oy: i32, dx: i32, dy: i32) -> i64
     requires { ⌜ Small before ox oy dx dy ⌝ }
     ensures { λ r. ⌜ r ≡ along before ox oy dx dy ⌝ }
 {
-    before + cross(ox, oy, dx, dy)
+    before + worth(ox, oy, dx, dy)
 }
 
 // The greater of the values by A and by B; the mark has 1 if A attains it and 2 if B does.

@@ -6,25 +6,26 @@ use mathlib.Core.List.{List, [], _∷_, _++_, append-assoc, List·Memᴰ, List·
 use Prim.Native.Nat.{ℕ, _+_, _*_, _≤_}
 use native.Mathlib.Omega.{arith}
 use native.Mathlib.Nat.{mul-le-mul}
-use lib.IntN.{ℤ, pos, _+ℤ_, _*ℤ_}
-use lib.ListN.{length, take, drop, length-append}
+use lib.IntN.{ℤ}
+use lib.ListN.{length, take, drop, length-append, length-take}
 use lib.Seq.{take-at, drop-at}
-use lib.Signed.{quotZ}
 use mir.Syntax.{w64}
 use mir.Val.{SFits}
 use Rattle.fault.specs.declared.Refusal.{Refusal}
-use Rattle.trace.specs.Points.{count, twiceArea}
+use Rattle.trace.specs.Points.{count}
 use Rattle.strip.specs.Pair.{Pair}
 use Rattle.fault.proofs.GateLaws.{stopped-not-passed}
 use Rattle.joining.proofs.ListCases.{list-passed}
 use Rattle.ways.specs.Strip.{Step}
 use Rattle.ways.proofs.Greatest.{strip-length}
 use Rattle.ways.proofs.Complete.{listed-best}
-use Rattle.strip.specs.Worth.{W}
+use Rattle.ways.proofs.Unique.{best-same}
+use Rattle.ways.proofs.Runs.{onward-head}
+use Rattle.strip.specs.Worth.{valueOf}
 use Rattle.strip.specs.Band.{bandSix}
-use Rattle.strip.specs.Bytes.{bytes, stepsOf}
+use Rattle.strip.specs.Bytes.{bytes, stepsOf, IsStrip}
 use Rattle.strip.proofs.BytesLaws.{bytes-length, steps-bytes}
-use Rattle.joining.specs.Answers.{BestOf}
+use Rattle.joining.specs.Answers.{FirstOf}
 use Rattle.joining.specs.Listing.{Beginning, all, some, lined, EnoughLines, ListAnswer, listed, listGates}
 use Rattle.joining.specs.Listing as Joining
 use Rattle.joining.specs.declared.Run.{Run}
@@ -64,12 +65,14 @@ cut steps (s ∷ l) rest f =
 
 -- ---- what a run of best strips is
 
--- the lines hold the first 1,000 best strips, and the value is that of any best strip
+-- the lines hold the first 1,000 best strips, and the value is that of the first
 pub record RunOf (a b : List ℤ) (strips : List ℕ) (value : ℤ) (n : ℕ) (more : Bool) : Type 0 where
-  pub best : List Step
-  pub isBest : BestOf a b best
-  pub valued : value ≡ W a b best
+  pub first : List Step
+  pub isFirst : FirstOf a b first
+  pub valued : value ≡ valueOf a b first
   pub list : List (List Step)
+  pub others : List (List Step)
+  pub begins : list ≡ first ∷ others
   pub counted : n ≡ length list
   pub beginning : Beginning a b 1000 list more
   pub rest : List ℕ
@@ -78,6 +81,20 @@ pub record RunOf (a b : List ℤ) (strips : List ℕ) (value : ℤ) (n : ℕ) (m
 beginning-sized : {a b : List ℤ} {limit : ℕ} {l : List (List Step)} {more : Bool} → Beginning a b limit l more → Sized (count a + count b) l
 beginning-sized (all x h) t m = strip-length (listed-best x m .is)
 beginning-sized (some s rest x h) t m = strip-length (listed-best x (Memᴰ·append-left (s ∷ rest) m) .is)
+
+-- some strip is best, so there is a first, and it stands in front
+record Begun (a b : List ℤ) (l : List (List Step)) : Type 0 where
+  pub first : List Step
+  pub isFirst : FirstOf a b first
+  pub others : List (List Step)
+  pub begins : l ≡ first ∷ others
+
+begun : {a b : List ℤ} {limit : ℕ} {l : List (List Step)} {more : Bool} → 1 ≤ limit → Beginning a b limit l more → Begun a b l
+begun h (all x k) = let o = onward-head (x .onward) in record { first = x .start; isFirst = x .first; others = o .0; begins = o .1 }
+begun {l = []} h (some s rest x k) = absurd (omega arith)
+begun {l = t ∷ l} h (some s rest x k) =
+    let o = onward-head (x .onward) in
+    record { first = x .start; isFirst = x .first; others = l; begins = ap (λ (z : List Step). z ∷ l) (let e : t ≡ x .start = cc in e) }
 
 beginning-few : {a b : List ℤ} {limit : ℕ} {l : List (List Step)} {more : Bool} → Beginning a b limit l more → length l ≤ limit
 beginning-few (all x h) = h
@@ -106,14 +123,17 @@ module _ {a b : List ℤ} (p : Pair a b) where
       → r ≡ Lines value n more → RunOf a b lines′ value n more
   run-of (Joining.ListAnswer.refused x u) e = absurd (let z : _≡_ {A = ℕ} 0 1 = cc in omega arith)
   run-of {lines = old} {value = value} {n = n} {more = more} (listed {more = m} q l begin f c s t) e =
-      let v : value ≡ W a b s = cc in
+      let v : value ≡ valueOf a b s = cc in
+      let g = begun (omega arith) begin in
       let k : n ≡ length l = cc in
       let d : m ≡ more = cc in
       record {
-        best = s;
-        isBest = t;
-        valued = v;
+        first = g .first;
+        isFirst = g .isFirst;
+        valued = v ∙ best-same t (g .isFirst .best);
         list = l;
+        others = g .others;
+        begins = g .begins;
         counted = k;
         beginning = subst (Beginning a b 1000 l) d begin;
         rest = drop (length l * (count a + count b)) old;
@@ -161,15 +181,30 @@ module _ {a b : List ℤ} (p : Pair a b) where
           );
         }
 
-    -- six times the volume, by the rule
-    pub run-six : (h : ℤ) {areas six : ℤ} → areas ≡ twiceArea a +ℤ twiceArea b → six ≡ h *ℤ (areas +ℤ quotZ value (pos 2)) → six ≡ bandSix h a b (r .best)
-    unfolding bandSix
-    run-six h d e = e ∙ ap₂ (λ (x y : ℤ). h *ℤ (x +ℤ quotZ y (pos 2))) d (r .valued)
+    -- the first of them stands at the front
+    pub run-front : take (count a + count b) strips ≡ bytes (r .first)
+    unfolding lined
+    run-front =
+        let sized : length (bytes (r .first)) ≡ count a + count b = bytes-length (r .first) ∙ strip-length (r .isFirst .best .is) in
+        ap (take (count a + count b)) (r .front ∙ ap (λ (l : List (List Step)). lined l ++ r .rest) (r .begins)
+        ∙ append-assoc (bytes (r .first)) (lined (r .others)) (r .rest))
+        ∙ take-at (bytes (r .first)) (lined (r .others) ++ r .rest) (count a + count b) sized
+
+    pub run-strip : IsStrip (count a) (count b) (take (count a + count b) strips)
+    run-strip = record { steps = r .first; written = run-front; strip = r .isFirst .best .is }
+
+    -- six times its volume
+    pub run-six : {g h six : ℤ} → g ≡ h → six ≡ bandSix g a b (stepsOf (take (count a + count b) strips)) → six ≡ bandSix h a b (r .first)
+    run-six d e = e ∙ ap₂ (λ (h : ℤ) (s : List Step). bandSix h a b s) d (ap stepsOf run-front ∙ steps-bytes (r .first))
+
+    -- they stand there, as many as a strip has steps
+    pub front-inside : count a + count b ≤ length strips
+    front-inside = omega (arith, ap length run-front, bytes-length (r .first), strip-length (r .isFirst .best .is), length-take (count a + count b) strips)
 
     -- so they are the lines that are to be written
-    pub run-lines : {v six : ℤ} (h : ℤ) → v ≡ value → six ≡ bandSix h a b (r .best) → BestLines h a b (linesOf v six (count a + count b) n strips more)
+    pub run-lines : {v six : ℤ} (h : ℤ) → v ≡ value → six ≡ bandSix h a b (r .first) → BestLines h a b (linesOf v six (count a + count b) n strips more)
     unfolding linesOf
     run-lines h d e =
         subst (BestLines h a b)
         (sym (ap₂ (λ (x : List ℕ) (y : List (List Step)). x ++ (stripLines y ++ lastLine more)) (ap₂ valueLine (d ∙ r .valued) e) run-cut))
-        (lines (r .best) (r .isBest) (r .list) (r .beginning))
+        (lines (r .first) (r .isFirst) (r .list) (r .beginning))

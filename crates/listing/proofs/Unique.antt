@@ -1,23 +1,21 @@
 -- Two outcomes that the contract allows for one input coincide: the number of bytes, every byte written and every other. What is read is
--- one (it is computed), a pair is refused in one way or not at all, and the list of best strips and its value are one. Assumes nothing.
+-- one (it is computed), a pair is refused in one way or not at all, and the first best strip and the list of best strips are one. Assumes nothing.
 use mathlib.Core.Path.{_≡_, refl, sym, ap, ap₂, _∙_}
 use mathlib.Core.Bool.{Bool}
 use mathlib.Core.List.{List, _++_}
 use Prim.Native.Nat.{ℕ}
 use native.Mathlib.Omega.{arith}
-use lib.IntN.{ℤ, pos, _+ℤ_, _*ℤ_}
+use lib.IntN.{ℤ}
 use lib.ListN.{length, drop}
-use lib.Signed.{quotZ}
 use Rattle.whole.proofs.Order.{clash}
 use Rattle.fault.specs.declared.Fault.the-variants.{Planes}
-use Rattle.trace.specs.Points.{twiceArea}
 use Rattle.fault.specs.Gates.{at, Passed}
 use Rattle.fault.proofs.GateLaws.{Single, one-stop, stopped-not-passed}
 use Rattle.strip.specs.Pair.{Pair}
 use Rattle.strip.proofs.PairLaws.{traces-single, traces-open}
 use Rattle.ways.specs.Strip.{Step}
-use Rattle.ways.proofs.Unique.{best-same}
-use Rattle.strip.specs.Worth.{W}
+use Rattle.ways.proofs.Unique.{first-unique}
+use Rattle.strip.specs.Worth.{valueOf}
 use Rattle.strip.specs.Band.{bandSix}
 use Rattle.joining.proofs.Exact.{same-beginning}
 use Rattle.listing.specs.declared.Listed.{Listed}
@@ -48,15 +46,10 @@ not-both (fall x y z) r = clash (r .rises) z
 
 -- ---- the lines
 
-six-same : (h : ℤ) (a b : List ℤ) (s t : List Step) → W a b s ≡ W a b t → bandSix h a b s ≡ bandSix h a b t
-unfolding bandSix
-six-same h a b s t e = ap (λ (w : ℤ). h *ℤ (twiceArea a +ℤ twiceArea b +ℤ quotZ w (pos 2))) e
-
 best-lines-unique : {h : ℤ} {a b : List ℤ} {x y : List ℕ} → BestLines h a b x → BestLines h a b y → x ≡ y
 best-lines-unique {h} {a} {b} (lines {more = m} s f k p) (lines {more = n} t g l q) =
-    let w = best-same f g in
     let same = same-beginning a b p q in
-    ap₂ (λ (u v : List ℕ). u ++ v) (ap₂ valueLine w (six-same h a b s t w))
+    ap₂ (λ (u v : List ℕ). u ++ v) (ap (λ (z : List Step). valueLine (valueOf a b z) (bandSix h a b z)) (first-unique f g))
     (ap₂ (λ (v : List (List Step)) (z : Bool). stripLines v ++ lastLine z) (same .strips) (same .remain))
 
 passed : {lower upper : ℤ} {a b : List ℤ} → Pair a b → PlanesRise lower upper → Passed (pairGates lower a upper b)

@@ -12,9 +12,9 @@ use Rattle.fault.specs.Number.{numberOf}
 use Rattle.fault.specs.Gates.{at, Gate, Stopped}
 use Rattle.strip.specs.Pair.{Pair, PairRefused}
 use Rattle.ways.specs.Strip.{Step}
-use Rattle.strip.specs.Worth.{W}
+use Rattle.strip.specs.Worth.{valueOf}
 use Rattle.strip.specs.Band.{bandSix}
-use Rattle.joining.specs.Answers.{BestOf}
+use Rattle.joining.specs.Answers.{FirstOf}
 use Rattle.joining.specs.Listing.{Beginning}
 use Rattle.listing.specs.declared.Listed.{Listed}
 use Rattle.listing.specs.declared.Listed.the-variants.{Bytes, Refused}
@@ -29,10 +29,10 @@ lastLine false = endLine
 unfoldable pub refusal : Refusal → List ℕ
 refusal r = refusedLine (numberOf (r .fault)) (r .place)
 
--- the lines for two accepted traces, h apart: any best strip s has the value and the volume, and l are the first 1,000 best strips
+-- the lines for two accepted traces, h apart: value and volume are those of the first best strip s, and l are the first 1,000 best strips
 pub data BestLines (h : ℤ) (a b : List ℤ) : List ℕ → Type 0 where
-  lines : {more : Bool} → (s : List Step) → BestOf a b s → (l : List (List Step)) → Beginning a b 1000 l more
-      → BestLines h a b (valueLine (W a b s) (bandSix h a b s) ++ (stripLines l ++ lastLine more))
+  lines : {more : Bool} → (s : List Step) → FirstOf a b s → (l : List (List Step)) → Beginning a b 1000 l more
+      → BestLines h a b (valueLine (valueOf a b s) (bandSix h a b s) ++ (stripLines l ++ lastLine more))
 
 -- PLANES at the lowest plane at fault
 pub record PlanesRefused (lower upper : ℤ) (r : Refusal) : Type 0 where

@@ -1,12 +1,13 @@
 // The lines of two accepted traces: value and six times the volume, the first 1,000 best strips, and whether some remain.
 ghost use mathlib.Core.Path.{_≡_};
 ghost use Prim.Native.Nat.{_*_, _≤_};
-ghost use lib.IntN.{pos, _+ℤ_, _*ℤ_};
+ghost use lib.IntN.{_+ℤ_};
 ghost use lib.ListN.{length};
-ghost use lib.Signed.{quotZ};
 ghost use Rattle.whole.specs.Between.{Within};
-ghost use Rattle.trace.specs.Points.{twiceArea};
+ghost use Rattle.trace.specs.Points.{count, twiceArea};
 ghost use Rattle.strip.specs.Pair.{Pair};
+ghost use Rattle.strip.specs.Bytes.{IsStrip, stepsOf};
+ghost use Rattle.strip.specs.Band.{bandSix};
 ghost use Rattle.listing.specs.Listing.{BestLines, longest};
 ghost use Rattle.listing.specs.Telling.{Told, linesOf};
 ghost use Rattle.listing.specs.Writing.{Room, Wrote};
@@ -16,6 +17,7 @@ use crate::lines::put_strips;
 use crate::lines::put_value;
 use joining::Run;
 use joining::list_best;
+use strip::weigh;
 use whole::half;
 
 // Room for the first 1,000 best strips of two traces of 250 points.
@@ -32,12 +34,13 @@ fn no_marks() -> [u8; 63_001]
     [0u8; 63_001]
 }
 
-// Six times the volume by the band rule, of traces `h` apart, with twice their areas and the value.
-fn six_times(h: i32, areas: i64, value: i64) -> i64
-    requires { ⌜ Within 200000 h × Within 10000000000000 areas × Within 10000000000000 (quotZ value (pos 2)) ⌝ }
-    ensures { λ r. ⌜ r ≡ h *ℤ (areas +ℤ quotZ value (pos 2)) ⌝ }
+// Six times the volume by the band rule, of traces `h` apart, with twice their areas together, and the strip between them.
+fn six_times(h: i32, areas: i64, a: &[i32], b: &[i32], part: &[u8]) -> i64
+    requires { ⌜ Pair (now a) (now b) × IsStrip (count (now a)) (count (now b)) (now part) × Within 200000 h
+        × (areas ≡ twiceArea (now a) +ℤ twiceArea (now b)) ⌝ }
+    ensures { λ r. ⌜ r ≡ bandSix h (now (a .entry)) (now (b .entry)) (stepsOf (now (part .entry))) ⌝ }
 {
-    (h as i64) * (areas + half(value))
+    (h as i64) * (areas + half(weigh(a, b, part)))
 }
 
 // All lines, of `count` strips that stand one after the other.
@@ -62,7 +65,7 @@ fn put_lines(
     }
 }
 
-// The table is filled once, for all strips. The traces are accepted and the room is enough, so the 0 is never answered.
+// The table is filled once, for all strips; the volume is that of the first. The traces are accepted and the room is enough, so the 0 is never answered.
 pub(crate) fn list_pair(out: &mut [u8], a: &[i32], b: &[i32], h: i32, areas: i64) -> usize
     requires { ⌜ Pair (now a) (now b) × Within 200000 h × (areas ≡ twiceArea (now a) +ℤ twiceArea (now b)) × (longest ≤ length (now out)) ⌝ }
     ensures { λ r. ⌜ Told (BestLines h (now (a .entry)) (now (b .entry))) (now (out .entry)) (now (out .exit)) r ⌝ }
@@ -73,7 +76,7 @@ pub(crate) fn list_pair(out: &mut [u8], a: &[i32], b: &[i32], h: i32, areas: i64
     let Run::Lines { value, count, more } = run else {
         return 0;
     };
-    let six = six_times(h, areas, value);
     let steps = a.len() / 2 + b.len() / 2;
+    let six = six_times(h, areas, a, b, &strips[..steps]);
     put_lines(out, value, six, &strips, count, steps, more)
 }

@@ -29,8 +29,7 @@ use Rattle.strip.specs.declared.Valued.the-variants.{Value, Refused}
 use Rattle.strip.specs.Worth.{worths}
 use Rattle.strip.specs.Bytes.{byteOf, bytes, IsStrip}
 use Rattle.strip.specs.Judging.{StripJudged}
-use Rattle.strip.specs.Weighed.{Weighed}
-use Rattle.strip.specs.Weighed.{strip as strip-weighed, none as none-weighs}
+use Rattle.strip.specs.Weighed.{Weighed, weight, nothing}
 use Rattle.strip.proofs.JudgingLaws.{other, strip}
 use Rattle.strip.specs.Walk.{worthOf, Sides, Ready, Room, By, Stepped, by, full, over, lost, Alive, Along, answered}
 use Rattle.strip.proofs.BytesLaws.{bytes-length, bytes-injective, is-strip-length, Goes, goes-on, numbers-exactly}
@@ -170,14 +169,14 @@ module _ {a b : List ℤ} {l : List ℕ} {m n : ℕ} {s : Walked} (f : Sides a b
   pub along-weighed : s .ok ≡ true → s .i ≡ m → s .j ≡ n → Weighed a b l (s .value)
   along-weighed o i j =
       let v = g .alive o in
-      rw (v .value) (strip-weighed (record {
+      rw (v .value) (weight (record {
         steps = v .steps;
         written = sym (take-length l) ∙ v .written;
         strip = record { hasA = v .hasA ∙ i ∙ f .countA; hasB = v .hasB ∙ j ∙ f .countB };
       }))
 
   pub none-weighed : ((s .ok ≡ true) × (s .i ≡ m) × (s .j ≡ n) → ⊥) → Weighed a b l (pos 0)
-  none-weighed no-strip = none-weighs (λ p. go p (s .ok) refl)
+  none-weighed no-strip = nothing (λ p. go p (s .ok) refl)
     where
       go : IsStrip (count a) (count b) l → (t : Bool) → s .ok ≡ t → ⊥
       go p false o = g .lost o p

@@ -10,6 +10,8 @@ use Rattle.fault.specs.declared.Refusal.{Refusal}
 use Rattle.fault.specs.declared.Fault.the-variants.{Strip}
 use Rattle.ways.specs.Strip.{Step}
 use Rattle.trace.specs.Points.{count}
+use Rattle.trace.specs.Outline.{fairly}
+use Rattle.trace.proofs.OutlineLaws.{fairly-same}
 use Rattle.fault.specs.Gates.{at}
 use Rattle.strip.specs.Pair.{Pair, PairRefused}
 use Rattle.strip.specs.declared.Valued.{Valued}
@@ -17,6 +19,7 @@ use Rattle.strip.specs.declared.Valued.the-variants.{Value, Refused}
 use Rattle.strip.specs.Worth.{W}
 use Rattle.strip.specs.Bytes.{IsStrip, Numbers}
 use Rattle.strip.specs.Judging.{judgeGates, StripJudged, refused, accepted}
+use Rattle.strip.specs.Weighed.{Weighed, weight, nothing}
 use Rattle.strip.proofs.JudgingLaws.{pair, other, strip, Refusing, traces, no-strip, refusing}
 use Rattle.fault.proofs.GateLaws.{due-single, one-stop, stopped-not-passed}
 use Rattle.strip.proofs.BytesLaws.{same-steps, numbers-exactly}
@@ -61,3 +64,20 @@ pair-refused-exactly {a} {b} {l} n r = (λ x. take (refusing x), pair)
     take : Refusing a b l r → PairRefused a b r
     take (traces q) = q
     take (no-strip p _ _) = absurd (n p)
+
+-- ---- what is weighed
+
+-- two outcomes that the contract allows coincide
+pub weighed-unique : {a b : List ℤ} {l : List ℕ} {w v : ℤ} → Weighed a b l w → Weighed a b l v → w ≡ v
+weighed-unique {a} {b} (weight s) (weight t) = ap (W a b) (same-steps s t)
+weighed-unique (weight s) (nothing n) = absurd (n s)
+weighed-unique (nothing n) (weight t) = absurd (n t)
+weighed-unique (nothing _) (nothing _) = refl
+
+-- of a strip between accepted traces it is 01's W
+pub weighed-strip : {a b : List ℤ} {l : List ℕ} {w : ℤ} → Pair a b → (s : IsStrip (count a) (count b) l)
+    → Weighed (fairly a) (fairly b) l w → w ≡ W a b (s .steps)
+weighed-strip {a} {b} {l} {w} p s g = weighed-unique same (weight s)
+  where
+    same : Weighed a b l w
+    same = rw (fairly-same (p .lower), fairly-same (p .upper)) at g

@@ -1,6 +1,6 @@
 -- One step, as the machine takes it: what it gains is the step's worth and leaves the sum far inside an i64, and by which byte it came to what.
 -- Assumes nothing.
-use mathlib.Core.Path.{_≡_, refl, ap₂}
+use mathlib.Core.Path.{_≡_, refl}
 use mathlib.Core.Bool.{Bool, true, false, cond}
 use mathlib.Core.List.{List, [], _∷_}
 use Prim.Native.Nat.{ℕ, _+_, _≤_, _<_}
@@ -18,35 +18,21 @@ use Rattle.trace.specs.declared.outline.Outline.{Outline}
 use Rattle.trace.specs.Outline.{Outlined, Ranged}
 use Rattle.trace.proofs.OutlineLaws.{follows-within}
 use Rattle.strip.specs.declared.Walked.{Walked}
-use Rattle.strip.specs.Arrays.{Arrays, arrays, worthsOf}
+use Rattle.strip.specs.Arrays.{worthsOf}
+use Rattle.strip.proofs.ArrayLaws.{arraysOf, outline-A, outline-B}
 use Rattle.strip.specs.Bytes.{byteOf}
-use Rattle.strip.specs.Worth.{worthA, worthB, worths}
+use Rattle.strip.specs.Worth.{worths}
 use Rattle.strip.specs.Walk.{worthOf, gainOf, Stepped, by, full}
 
 -- ---- what a step gains
 
--- the arrays of an outline
-abbrev pub arraysOf : Outline → Arrays
-arraysOf p = arrays (p .x) (p .y) (p .dx) (p .dy)
-
 module _ {a b : List ℤ} {p q : Outline} (o : Outlined a p) (u : Outlined b q) where
-  -- inside the grid the outlines give 01's worths
-  pub outline-A : (i j : ℕ) → i < count a → j ≤ count b → worthsOf (arraysOf p) (arraysOf q) .worthA i j ≡ worthA a b i j
-  unfolding worthA
-  outline-A i j h k =
-      ap₂ _-ℤ_ (ap₂ _*ℤ_ (u .x .done j (omega arith)) (o .dy .done i h)) (ap₂ _*ℤ_ (u .y .done j (omega arith)) (o .dx .done i h))
-
-  pub outline-B : (i j : ℕ) → i ≤ count a → j < count b → worthsOf (arraysOf p) (arraysOf q) .worthB i j ≡ worthB a b i j
-  unfolding worthB
-  outline-B i j h k =
-      ap₂ _-ℤ_ (ap₂ _*ℤ_ (o .x .done i (omega arith)) (u .dy .done j k)) (ap₂ _*ℤ_ (o .y .done i (omega arith)) (u .dx .done j k))
-
   -- what a step that there is room for gains
   pub gains : (x : Step) (i j : ℕ) → i + stepsA (x ∷ []) ≤ count a → j + stepsB (x ∷ []) ≤ count b
       → gainOf (byteOf x) i j (arraysOf p) (arraysOf q) ≡ worthOf (worths a b) x i j
   unfolding gainOf stepsA stepsB
-  gains A i j h k = outline-A i j (omega arith) (omega arith)
-  gains B i j h k = outline-B i j (omega arith) (omega arith)
+  gains A i j h k = outline-A o u i j (omega arith) (omega arith)
+  gains B i j h k = outline-B o u i j (omega arith) (omega arith)
 
 -- whatever pair it starts from, a step gains at most so much: what an outline holds is bounded everywhere
 module _ {a b : List ℤ} {p q : Outline} (ra : Ranged a) (rb : Ranged b) (o : Outlined a p) (u : Outlined b q) where

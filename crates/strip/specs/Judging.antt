@@ -10,7 +10,7 @@ use Rattle.trace.specs.Points.{count}
 use Rattle.strip.specs.declared.Valued.{Valued}
 use Rattle.strip.specs.declared.Valued.the-variants.{Value, Refused}
 use Rattle.strip.specs.Pair.{PairRefused}
-use Rattle.strip.specs.Worth.{W}
+use Rattle.strip.specs.Worth.{valueOf}
 use Rattle.strip.specs.Bytes.{IsStrip}
 
 -- the traces a and b, then STRIP for the bytes l
@@ -20,4 +20,4 @@ judgeGates a b l = PairRefused a b ∷ unless Strip (IsStrip (count a) (count b)
 -- the answer
 pub data StripJudged (a b : List ℤ) (l : List ℕ) : Valued → Type 0 where
   refused : {r : Refusal} → Stopped (judgeGates a b l) r → StripJudged a b l (Refused r)
-  accepted : Passed (judgeGates a b l) → (s : IsStrip (count a) (count b) l) → StripJudged a b l (Value (W a b (s .steps)))
+  accepted : Passed (judgeGates a b l) → (s : IsStrip (count a) (count b) l) → StripJudged a b l (Value (valueOf a b (s .steps)))

@@ -7,5 +7,5 @@ use Rattle.strip.specs.Bytes.{IsStrip}
 use Rattle.strip.specs.Worth.{W}
 
 pub data Weighed (a b : List ℤ) (l : List ℕ) : ℤ → Type 0 where
-  strip : (s : IsStrip (count a) (count b) l) → Weighed a b l (W a b (s .steps))
-  none : (IsStrip (count a) (count b) l → ⊥) → Weighed a b l (pos 0)
+  weight : (s : IsStrip (count a) (count b) l) → Weighed a b l (W a b (s .steps))
+  nothing : (IsStrip (count a) (count b) l → ⊥) → Weighed a b l (pos 0)

@@ -17,9 +17,13 @@ worthB a b i j = px a i *ℤ (py b (j + 1) -ℤ py b j) -ℤ py a i *ℤ (px b (
 abbrev pub worths : List ℤ → List ℤ → Worths
 worths a b = record { worthA = worthA a b; worthB = worthB a b }
 
--- "The value W is their sum"
+-- "The value W is their sum". W is what the band rule takes ..
 abbrev pub W : List ℤ → List ℤ → List Step → ℤ
 W a b s = value (worths a b) s
+
+-- .. and the value is what is made greatest, what judging and listing answer. They are one number, under two names.
+abbrev pub valueOf : List ℤ → List ℤ → List Step → ℤ
+valueOf a b s = W a b s
 
 -- the sum of the A steps' worths alone, and of the B steps': 01, "Over a whole strip the A steps and the B steps add up to the
 -- same amount."

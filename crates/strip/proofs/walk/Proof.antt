@@ -12,7 +12,8 @@ use borrow.Author.Needs.{needs}
 use Rattle.trace.specs.Outline.{fairly}
 use Rattle.trace.proofs.OutlineLaws.{fairly-count, fairly-ranged}
 use Rattle.strip.specs.Walk.{gainOf, Sides, Few, Along}
-use Rattle.strip.proofs.StepLaws.{arraysOf, gains, gain-within}
+use Rattle.strip.proofs.ArrayLaws.{arraysOf}
+use Rattle.strip.proofs.StepLaws.{gains, gain-within}
 use Rattle.strip.proofs.Along.{along-begun, along-ready, along-more}
 use Rattle.strip.proofs.walk.Statement.{statement}
 use Rattle.strip.proofs.walk.Tie as tie

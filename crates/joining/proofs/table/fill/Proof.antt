@@ -7,7 +7,7 @@ use lib.IntN.{pos}
 use lib.ListN.{getD}
 use mir.Syntax.{w64}
 use Rattle.whole.proofs.Machine.{read-back}
-use Rattle.joining.specs.Table.{arrays, worthsOf}
+use Rattle.strip.specs.Arrays.{arrays, worthsOf}
 use Rattle.joining.proofs.TableLaws.{TableSo, ready-first, ready-row, first-whole, table-more, table-done}
 use Rattle.joining.proofs.table.fill.Statement.{statement}
 use Rattle.joining.proofs.table.fill.Tie as tie

@@ -3,7 +3,7 @@ use mathlib.Core.List.{[]}
 use Prim.Native.Nat.{_+_, _*_, _-_}
 use native.Mathlib.Omega.{arith}
 use borrow.Author.Needs.{needs}
-use Rattle.joining.specs.Table.{arrays, worthsOf}
+use Rattle.strip.specs.Arrays.{arrays, worthsOf}
 use Rattle.joining.proofs.CellLaws.{room-fits}
 use Rattle.joining.proofs.RowLaws.{ready-put}
 use Rattle.joining.proofs.TableLaws.{FirstSo, first-begun, first-ready, first-more, first-done}

@@ -5,7 +5,7 @@ use native.Mathlib.Omega.{arith}
 use lib.IntN.{ℤ, _+ℤ_}
 use mir.Syntax.{w64}
 use Rattle.whole.proofs.Machine.{returned}
-use Rattle.joining.specs.Table.{arrays, worthsOf}
+use Rattle.strip.specs.Arrays.{arrays, worthsOf}
 use Rattle.joining.proofs.CellLaws.{room-fits}
 use Rattle.joining.proofs.ChoiceLaws.{step-small, small-segment, segment-is}
 use Rattle.joining.proofs.RowLaws.{cells-few, RowSo, ready-put, row-end, row-within, row-begun, row-ready, row-more, row-done}

@@ -5,7 +5,7 @@ use lib.ListN.{length}
 use mir.Syntax.{w32}
 use Rattle.whole.proofs.Machine.{fits-holds}
 use Rattle.mesh.proofs.Parts.{part-inside, part-is}
-use Rattle.mesh.proofs.SixLaws.{rise-held, rise-read, rise-within, band-joined, band-ruled, rule-returned}
+use Rattle.mesh.proofs.SixLaws.{rise-held, rise-read, rise-within, band-joined, band-areas, band-ruled, rule-returned}
 use borrow.Author.Needs.{needs}
 use Rattle.mesh.proofs.six.band_six.Statement.{statement}
 use Rattle.mesh.proofs.six.band_six.Tie as tie
@@ -69,6 +69,8 @@ by-rule-requires c κs =
       band-joined (s .pre .0) (s .pre .1) low high (c .before .before .trace-of .ensures) (c .before .trace-of2 .ensures)
           (part-is (s .args .stack) (s .args .k) (s .pre .2) low high (s .args .strips .now)),
       rise-within (s .pre .0) (s .pre .1) low high,
+      band-areas (s .pre .0) (s .pre .1) low high (c .before .before .trace-of .ensures) (c .before .trace-of2 .ensures)
+          (part-is (s .args .stack) (s .args .k) (s .pre .2) low high (s .args .strips .now)) (s .pre .3),
     )
 
 returns : tie.Need-returns
