@@ -40,7 +40,7 @@ pub record PlanesRefused (lower upper : ℤ) (r : Refusal) : Type 0 where
   pub wrong : PlanesWrong lower upper place
   pub is : r ≡ at Planes place
 
--- for two planes and traces: "trace by trace .. 1 to 6, then 7"
+-- for two planes and traces: "trace by trace 2 to 6 (in a pair 1 to 6), then 7"
 abbrev pub pairGates : ℤ → List ℤ → ℤ → List ℤ → List Gate
 pairGates lower a upper b = PairRefused a b ∷ PlanesRefused lower upper ∷ []
 

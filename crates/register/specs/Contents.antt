@@ -22,7 +22,7 @@ unfoldable pub fours : List ℤ → List ℕ
 fours [] = []
 fours (z ∷ l) = four z ++ fours l
 
--- "per layer the plane, number of points, then x and y"
+-- "per layer the plane .. number of points .. then x and y"
 unfoldable pub layerBytes : List ℤ → Layer → List ℕ
 layerBytes c e = four (e .plane) ++ two (e .count) ++ fours (traceOf c e)
 

@@ -1,5 +1,5 @@
--- Demand 2: a strip that anyone offers is accepted exactly if it is one, with its true value. 01: "A strip offered for judging ..
--- fill[s its] slice exactly; any other length is STRIP at place 0."
+-- Demand 2: a strip that anyone offers is accepted exactly if it is one, with its true value. 01, of "A strip offered for judging" and of a
+-- stack's strips: they "fill their slice exactly; any other length is STRIP at place 0".
 use mathlib.Core.List.{List, [], _∷_}
 use Prim.Native.Nat.{ℕ}
 use lib.IntN.{ℤ}
