@@ -1,4 +1,6 @@
 // The first best strip of every band of a stack, one after another.
+#![tactic(auto)]
+
 ghost use Rattle.std.specs.Prelude.{◌≡◌, suc, ◌<◌, max};
 ghost use Rattle.fault.specs.Gates.{at};
 ghost use Rattle.stack.specs.Faults.{AcceptedStack};

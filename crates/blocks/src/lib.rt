@@ -1,5 +1,7 @@
 // The blocks of the register file: each with its contents, their check and two zero bytes. Files are judged and opened here, and
 // contents are sealed; what the contents say is the matter of the layer above.
+#![tactic(auto)]
+
 ghost use Rattle.std.specs.Prelude.{◌≡◌};
 ghost use Rattle.fault.specs.Gates.{at};
 ghost use Rattle.blocks.specs.Faults.{BlocksJudged, SealAnswer};

@@ -1,5 +1,7 @@
 // A lent slice of layer entries, taken into a stack, which is passed by value, and filled from one. All that is judged, measured and
 // written is proved on the stack.
+#![tactic(auto)]
+
 ghost use Rattle.std.specs.Prelude.{◌≡◌, suc, ◌<◌, min, length};
 ghost use Rattle.stack.specs.Laid.{stack_of};
 ghost use Rattle.entries.specs.Gathering.{Gathering};

@@ -1,4 +1,6 @@
 // The refusals by name, with 01's number for each ("What comes back"), and what every refusal is: a fault and a place.
+#![tactic(auto)]
+
 ghost use Rattle.std.specs.Prelude.{◌≡◌};
 ghost use Rattle.fault.specs.Gates.{at};
 ghost use Rattle.fault.specs.Number.{number_of};

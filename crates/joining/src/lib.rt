@@ -1,4 +1,6 @@
 // The best strips between two traces: the first, the next, and a run of them.
+#![tactic(auto)]
+
 mod choice;
 mod lines;
 mod marks;

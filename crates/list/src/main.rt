@@ -1,4 +1,6 @@
 // The listing program: standard input in, standard output out; all between is `listing`.
+#![tactic(auto)]
+
 ghost use Rattle.std.specs.Prelude.{◌≡◌, length};
 
 use libc::{STDIN_FILENO, STDOUT_FILENO};

@@ -1,5 +1,7 @@
 // Odd inputs of the listing program, a file each in data/, whose names stand in standard input, and what it writes for them: all of it, or
 // of a long one the first line, how many lines and bytes, and the last bytes. Then what happens to the lent slice.
+#![tactic(auto)]
+
 ghost use Rattle.std.specs.Prelude.{◌≡◌, ◌≤◌, length};
 
 use fault::number;

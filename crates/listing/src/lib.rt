@@ -1,4 +1,6 @@
 // The listing program as a function on slices: text in, text out.
+#![tactic(auto)]
+
 mod asked;
 mod best;
 mod lines;

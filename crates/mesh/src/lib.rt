@@ -1,4 +1,6 @@
 // The closed triangle list of a stack, and six times its volume.
+#![tactic(auto)]
+
 ghost use Rattle.stack.specs.Laid.{laid};
 ghost use Rattle.mesh.specs.Meshing.{Measured, Triangled};
 

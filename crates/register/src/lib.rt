@@ -1,4 +1,6 @@
 // The register file: a stack with its strips written as blocks, and read back.
+#![tactic(auto)]
+
 ghost use Rattle.std.specs.Prelude.{◌≡◌, ◌≤◌, length};
 ghost use Rattle.stack.specs.Faults.{AcceptedStack};
 ghost use Rattle.stack.specs.Strips.{StripsRight};

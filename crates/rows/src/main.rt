@@ -6,6 +6,8 @@
 // that is no command is printed behind `what?`. A call prints the numbers of its answer, or `refused NUMBER PLACE`; the word before the
 // numbers (`fit`, `steps`) is the text's. Memory is lent full of the guard, 7, and `kept` says that every element that may not be used is
 // still it, and that a stack that came back has no more layers than it may.
+#![tactic(auto)]
+
 mod calls;
 mod compares;
 mod desk;

@@ -1,4 +1,6 @@
 // A stack of layers over one coordinate list, and the strips of its bands.
+#![tactic(auto)]
+
 ghost use Rattle.std.specs.Prelude.{◌≡◌, [], ℕ, suc, ◌+◌, ◌-◌, ◌*◌, ◌/◌, ◌%◌, ◌≤◌, ◌<◌, min, length};
 ghost use Rattle.whole.specs.Lowest.{Sought, FirstPlace};
 ghost use Rattle.whole.specs.Tells.{Tells};

@@ -1,4 +1,6 @@
 // The value of a strip, and the judging of one made elsewhere: 01, "Strip, value, order".
+#![tactic(auto)]
+
 ghost use Rattle.std.specs.Prelude.{◌≡◌, false, ◌+◌, ◌*◌, ◌≤◌, pos, ◌-ℤ◌, ◌*ℤ◌, length, get_or};
 ghost use Rattle.strip.specs.Judging.{StripJudged};
 ghost use Rattle.strip.specs.Arrays.{arrays};

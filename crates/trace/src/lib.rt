@@ -1,4 +1,6 @@
 // The judgement of one trace: 01, "Traces and layers" and faults 1 to 6 of "What comes back". And its outline.
+#![tactic(auto)]
+
 pub mod outline;
 
 ghost use Rattle.std.specs.Prelude.{◌≡◌, true, false, ◌+◌, ◌*◌, ◌≤◌, ◌<◌, pos, length, get_or};

@@ -1,4 +1,6 @@
 // The exact leaves on signed words. Each takes every input; its contract speaks of whole numbers, never of bits.
+#![tactic(auto)]
+
 ghost use Rattle.std.specs.Prelude.{◌≡◌, pos, ◌*ℤ◌, ◌-ℤ◌};
 ghost use Rattle.std.specs.Int.Signed.{quot_z};
 ghost use Rattle.whole.specs.Between.{Between};

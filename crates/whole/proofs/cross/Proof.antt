@@ -20,15 +20,15 @@ product-requires c κs = search rules
 product-requires-2 : tie.Need-product-requires-2
 product-requires-2 c κs = search rules
 
-sub-result : tie.Need-overflow-sub-result
+sub-result : tie.Need-overflow_sub-result
 sub-result c =
-    fits_holds w64 (minus (held w64 (from refl c.before.product.ensures.1) tt) (held w64 (from refl c.product2.ensures.1) tt)) tt
+    fits_holds w64 (minus (held w64 (from refl c.before.product.ensures.1) tt) (held w64 (from refl c.product-2.ensures.1) tt)) tt
 
 returns : tie.Need-returns
 returns c =
     let fits = c.before.before.ranges in
-    (held w64 (minus (held w64 (from refl c.before.product.ensures.1) tt) (held w64 (from refl c.product2.ensures.1) tt)) tt).is
-    ∙ ap₂ ◌-ℤ◌ (numbers c.before.product.ensures.0 fits.ax fits.by) (numbers c.product2.ensures.0 fits.ay fits.bx)
+    (held w64 (minus (held w64 (from refl c.before.product.ensures.1) tt) (held w64 (from refl c.product-2.ensures.1) tt)) tt).is
+    ∙ ap₂ ◌-ℤ◌ (numbers c.before.product.ensures.0 fits.ax fits.by) (numbers c.product-2.ensures.0 fits.ay fits.bx)
 
 pub cross_spec : {M : Type 1} → statement M
 cross_spec = tie.close (tie.spec product-requires product-requires-2 sub-result returns)

@@ -9,7 +9,7 @@ use Rattle.whole.proofs.Halves.{part_fits}
 use Rattle.whole.proofs.half.Statement.{statement}
 use Rattle.whole.proofs.half.Tie as tie
 
-div-result : tie.Need-nonzero-div-result
+div-result : tie.Need-nonzero_div-result
 div-result c = (omega arith, part_fits w64 _ c.ranges.w)
 
 returns : tie.Need-returns

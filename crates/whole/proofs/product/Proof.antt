@@ -17,13 +17,13 @@ given f = held w32 (from32 refl f) tt
 wide : {z : ℤ} → SFits w32 z → Holds (2 ^ 31) (2 ^ 31 - 1) (to_z w64 (of_z w64 (to_z w32 (of_z w32 z)))) z
 wide f = held w64 (given f) tt
 
-cast-result : tie.Need-overflow-cast-result
+cast-result : tie.Need-overflow_cast-result
 cast-result c = fits_holds w64 (given c.ranges.a) tt
 
-cast-result-2 : tie.Need-overflow-cast-result-2
+cast-result-2 : tie.Need-overflow_cast-result-2
 cast-result-2 c = fits_holds w64 (given c.ranges.b) tt
 
-mul-result : tie.Need-overflow-mul-result
+mul-result : tie.Need-overflow_mul-result
 mul-result c = fits_holds w64 (times (wide c.ranges.a) (wide c.ranges.b)) tt
 
 returns : tie.Need-returns
