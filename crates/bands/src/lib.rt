@@ -11,7 +11,7 @@ ghost use Rattle.bands.specs.Filling.{cells, Sized, BandReady, BandFilled, Bands
 use fault::{Fault, Refusal, refuse};
 use stack::{Stack, StackJudgement, layer_at, trace_of};
 
-#[derive(Drop)]
+#[derive(Clone, Copy)]
 pub enum Banded {
     // The number of steps of all bands.
     Steps(usize),

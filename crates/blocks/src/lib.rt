@@ -18,14 +18,14 @@ mod judging;
 mod opening;
 mod writing;
 
-#[derive(Drop)]
+#[derive(Clone, Copy)]
 pub enum BlocksJudgement {
     // The number of blocks, each with its check and zero bytes.
     Sound(usize),
     Refused(Refusal),
 }
 
-#[derive(Drop)]
+#[derive(Clone, Copy)]
 pub enum Sealing {
     // The number of blocks that were written.
     Blocks(usize),

@@ -16,7 +16,7 @@ use stack::{Layer, Stack};
 
 // The number of bytes that were written.
 #[repr(C)]
-#[derive(Drop)]
+#[derive(Clone, Copy)]
 pub struct BytesAnswer {
     pub status: Status,
     pub bytes: usize,
@@ -24,7 +24,7 @@ pub struct BytesAnswer {
 
 // The numbers of layers, points and steps that were read.
 #[repr(C)]
-#[derive(Drop)]
+#[derive(Clone, Copy)]
 pub struct FileAnswer {
     pub status: Status,
     pub layers: usize,
@@ -33,7 +33,7 @@ pub struct FileAnswer {
 }
 
 // What is shown of a file, beside the stack that it holds.
-#[derive(Drop)]
+#[derive(Clone, Copy)]
 struct Found {
     stack: Stack,
     shown: FileAnswer,

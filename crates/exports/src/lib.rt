@@ -19,7 +19,7 @@ use trace::Judgement;
 
 // A value.
 #[repr(C)]
-#[derive(Drop)]
+#[derive(Clone, Copy)]
 pub struct Answer {
     pub status: Status,
     pub value: i64,
@@ -27,7 +27,7 @@ pub struct Answer {
 
 // A trace's twice the area and number of points.
 #[repr(C)]
-#[derive(Drop)]
+#[derive(Clone, Copy)]
 pub struct TraceAnswer {
     pub status: Status,
     pub area: i64,
@@ -36,7 +36,7 @@ pub struct TraceAnswer {
 
 // A run of best strips.
 #[repr(C)]
-#[derive(Drop)]
+#[derive(Clone, Copy)]
 pub struct RunAnswer {
     pub status: Status,
     pub value: i64,

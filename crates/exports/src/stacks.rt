@@ -16,7 +16,7 @@ use stack::{Layer, Stack, StackJudgement};
 
 // A stack's numbers of points and of steps of all bands.
 #[repr(C)]
-#[derive(Drop)]
+#[derive(Clone, Copy)]
 pub struct StackAnswer {
     pub status: Status,
     pub points: usize,
@@ -25,7 +25,7 @@ pub struct StackAnswer {
 
 // The number of steps that were written.
 #[repr(C)]
-#[derive(Drop)]
+#[derive(Clone, Copy)]
 pub struct StepsAnswer {
     pub status: Status,
     pub steps: usize,
@@ -33,7 +33,7 @@ pub struct StepsAnswer {
 
 // The number of triangles that were written, and six times the volume.
 #[repr(C)]
-#[derive(Drop)]
+#[derive(Clone, Copy)]
 pub struct MeshAnswer {
     pub status: Status,
     pub triangles: usize,

@@ -39,12 +39,14 @@ pub none_placed : {f : Fault} {P : ℕ → Type 0} {n : ℕ} → ((k : ℕ) → 
 none_placed h r x = h x.place x.lowest.below x.lowest.here
 
 pub one_stop : (gs : List Gate) → Singles gs → (r q : Refusal) → Stopped gs r → Stopped gs q → r ≡ q
+one_stop [] h r q x _ = elim x [ ]
 one_stop (g ∷ gs) h r q (inl x) (inl y) = h.0 r q x y
 one_stop (g ∷ gs) h r q (inl x) (inr y) = absurd (y.0 r x)
 one_stop (g ∷ gs) h r q (inr x) (inl y) = absurd (x.0 q y)
 one_stop (g ∷ gs) h r q (inr x) (inr y) = one_stop gs h.1 r q x.1 y.1
 
 pub stopped_not_passed : (gs : List Gate) (r : Refusal) → Stopped gs r → Passed gs → ⊥
+stopped_not_passed [] r x p = elim x [ ]
 stopped_not_passed (g ∷ gs) r (inl x) p = p.0 r x
 stopped_not_passed (g ∷ gs) r (inr x) p = stopped_not_passed gs r x.1 p.1
 

@@ -6,7 +6,7 @@ ghost use Rattle.fault.specs.Gates.{at};
 ghost use Rattle.fault.specs.Number.{number_of};
 ghost use Rattle.fault.specs.Status.{success, none_left, status_of};
 
-#[derive(Drop)]
+#[derive(Clone, Copy)]
 pub enum Fault {
     // odd number of coordinates
     Shape,
@@ -43,7 +43,7 @@ pub enum Fault {
 }
 
 // "Each refusal returns number and place only."
-#[derive(Drop)]
+#[derive(Clone, Copy)]
 pub struct Refusal {
     pub fault: Fault,
     pub place: usize,
@@ -51,7 +51,7 @@ pub struct Refusal {
 
 // What an answer tells of itself, whoever asked: 0 for success, 100 for "none left", else the number of a refusal; and the place.
 #[repr(C)]
-#[derive(Drop)]
+#[derive(Clone, Copy)]
 pub struct Status {
     pub number: u8,
     pub place: usize,

@@ -4,7 +4,7 @@ ghost use Rattle.joining.specs.Table.{Small, along, Chosen};
 
 use strip::worth;
 
-#[derive(Drop)]
+#[derive(Clone, Copy)]
 pub(crate) struct Choice {
     pub best: i64,
     pub mark: u8,

@@ -28,7 +28,7 @@ use trace::Judgement;
 use trace::outline::outline_of;
 
 // The next strip's value, "none left", or a refusal.
-#[derive(Drop)]
+#[derive(Clone, Copy)]
 pub enum Followed {
     Next(i64),
     NoneLeft,
@@ -36,7 +36,7 @@ pub enum Followed {
 }
 
 // The greatest value, how many strips were written and whether some remain; or a refusal.
-#[derive(Drop)]
+#[derive(Clone, Copy)]
 pub enum Run {
     Lines {
         value: i64,

@@ -47,7 +47,7 @@ fn can_turn(marks: &[u8], m: usize, n: usize, strip: &[u8]) -> bool
 }
 
 // How many strips were written, and whether some remain.
-#[derive(Drop)]
+#[derive(Clone, Copy)]
 pub(crate) struct Counted {
     pub count: usize,
     pub more: bool,

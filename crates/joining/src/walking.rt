@@ -9,14 +9,14 @@ ghost use Rattle.joining.specs.Walking.{says_a, Leads, BackFrom, TurnOf, Looked,
 use crate::marks::mark_at;
 
 // A pair, and the byte of the step that leads on from it.
-#[derive(Drop)]
+#[derive(Clone, Copy)]
 pub(crate) struct Back {
     pub i: usize,
     pub j: usize,
     pub byte: u8,
 }
 
-#[derive(Drop)]
+#[derive(Clone, Copy)]
 pub(crate) enum Turning {
     // The step at `at`, an A into the pair (i,j), which can be reached best by B as well.
     Turn { at: usize, i: usize, j: usize },
@@ -58,7 +58,7 @@ pub(crate) fn trace_back(marks: &[u8], n: usize, i: usize, j: usize, strip: &mut
 }
 
 // The pair after a step of a strip, and whether that step can be turned.
-#[derive(Drop)]
+#[derive(Clone, Copy)]
 pub(crate) struct Look {
     pub i: usize,
     pub j: usize,

@@ -7,7 +7,7 @@ ghost use Rattle.listing.specs.Filling.{PairRead, LayerRead, CountRead, CoordsRe
 use crate::numeral::{Word, next_number};
 
 // TEXT; or the planes and the numbers of points, the coordinates standing in the lists that were lent.
-#[derive(Drop)]
+#[derive(Clone, Copy)]
 pub(crate) enum Parsed {
     Text,
     Pair {
@@ -19,21 +19,21 @@ pub(crate) enum Parsed {
 }
 
 // A place in the text, or none: a number was wanted there and is not.
-#[derive(Drop)]
+#[derive(Clone, Copy)]
 enum Place {
     At(usize),
     Lost,
 }
 
 // A number of points and the place behind it, or none.
-#[derive(Drop)]
+#[derive(Clone, Copy)]
 enum Count {
     Points { count: usize, next: usize },
     Lost,
 }
 
 // A layer and the place behind it, or none.
-#[derive(Drop)]
+#[derive(Clone, Copy)]
 enum Found {
     Layer {
         plane: i32,

@@ -19,7 +19,7 @@ use fault::{Fault, Refusal, refuse};
 use trace::Judgement;
 
 // The number of bytes written, or ROOM.
-#[derive(Drop)]
+#[derive(Clone, Copy)]
 pub enum Listed {
     Bytes(usize),
     Refused(Refusal),

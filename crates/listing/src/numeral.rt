@@ -6,7 +6,7 @@ ghost use Rattle.listing.specs.Scan.{cap, SpelledOn, Spelt, answer_of, Next};
 use crate::words::{skip, word_at};
 
 // What stands next: a number and the place behind it; the end of the text; or a word that is no number.
-#[derive(Drop)]
+#[derive(Clone, Copy)]
 pub(crate) enum Word {
     Number { value: i32, next: usize },
     End,
@@ -17,7 +17,7 @@ pub(crate) enum Word {
 const CAP: u64 = 2_147_483_649;
 
 // Digits up to `end`. Once a byte was no digit, `digits` is false, and nothing else counts but the word's end.
-#[derive(Drop)]
+#[derive(Clone, Copy)]
 struct Spelled {
     end: usize,
     digits: bool,

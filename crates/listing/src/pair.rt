@@ -34,7 +34,7 @@ pub(crate) fn tell(out: &mut [u8], refusal: Refusal) -> usize
 }
 
 // The lowest plane out of range or not above the one below.
-#[derive(Drop)]
+#[derive(Clone, Copy)]
 pub(crate) enum Planes {
     Rise,
     Wrong(usize),

@@ -15,13 +15,13 @@ mod six;
 mod writers;
 
 // Six times the volume, or a refusal.
-#[derive(Drop)]
+#[derive(Clone, Copy)]
 pub enum Volumed {
     Six(i64),
     Refused(Refusal),
 }
 
-#[derive(Drop)]
+#[derive(Clone, Copy)]
 pub enum Meshed {
     // The number of triangles, and six times the volume.
     Closed { triangles: usize, six: i64 },

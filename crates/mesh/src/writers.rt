@@ -12,7 +12,7 @@ ghost use Rattle.mesh.specs.Writing.{Put, facing, cap_of, Numbered, StepReady, S
 use stack::{Layer, Stack, layer_at};
 
 // How far a band has come along its two traces.
-#[derive(Drop)]
+#[derive(Clone, Copy)]
 pub(crate) struct Pair {
     pub i: usize,
     pub j: usize,

@@ -11,7 +11,7 @@ use crate::judging::{content_right, extent_of};
 use fault::{Fault, Refusal, refuse};
 use stack::Stack;
 
-#[derive(Drop)]
+#[derive(Clone, Copy)]
 pub(crate) enum Content {
     Right,
     // LAYERS or CONTENT.
@@ -19,7 +19,7 @@ pub(crate) enum Content {
 }
 
 // The layers, and the numbers of points and steps that were decoded.
-#[derive(Drop)]
+#[derive(Clone, Copy)]
 pub(crate) struct Decoded {
     pub stack: Stack,
     pub points: usize,

@@ -6,7 +6,7 @@ ghost use Rattle.register.specs.Answering.{contents_end, Ended, Layered, Reaches
 use stack::{Stack, layer_at};
 
 // The number of points, and the places where the steps begin and end.
-#[derive(Drop)]
+#[derive(Clone, Copy)]
 pub(crate) struct Extent {
     pub points: usize,
     pub from: usize,

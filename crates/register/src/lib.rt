@@ -23,14 +23,14 @@ mod judging;
 mod putting;
 mod reading;
 
-#[derive(Drop)]
+#[derive(Clone, Copy)]
 pub enum Written {
     // The number of bytes.
     Bytes(usize),
     Refused(Refusal),
 }
 
-#[derive(Drop)]
+#[derive(Clone, Copy)]
 pub enum ReadBack {
     // The number of points, and of steps of all bands.
     Whole { points: usize, steps: usize },
@@ -38,7 +38,7 @@ pub enum ReadBack {
 }
 
 // What a file holds: its layers by value, none if it is refused, and the answer. (An enum cannot hold an array.)
-#[derive(Drop)]
+#[derive(Clone, Copy)]
 pub struct FileRead {
     pub stack: Stack,
     pub answer: ReadBack,

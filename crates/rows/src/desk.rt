@@ -6,7 +6,7 @@ use crate::words::{Words, signed};
 use stack::{Layer, Stack, no_layers, with_layer};
 use std::num::wrapping_add_usize;
 
-#[derive(Drop)]
+#[derive(Clone, Copy)]
 pub(crate) struct Desk {
     // In hand: a stack, coordinates, strips, a file, with how many count of each; and a file that is kept.
     pub(crate) stack: Stack,

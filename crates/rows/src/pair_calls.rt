@@ -20,7 +20,7 @@ pub(crate) fn best(sum: u64, a: &[i32], b: &[i32], strip: &mut [u8], work: &mut 
 }
 
 // The sum, and the number of the answer: 0 if there is a next one, 100 if none is left, else some other.
-#[derive(Drop)]
+#[derive(Clone, Copy)]
 pub(crate) struct Gone {
     pub(crate) sum: u64,
     pub(crate) number: usize,

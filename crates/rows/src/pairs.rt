@@ -14,7 +14,7 @@ use std::num::{wrapping_add_usize, wrapping_sub_usize};
 use strip::Valued;
 
 // The sum, how many pairs were refused, how many best strips were listed, and how many strips the last accepted pair has.
-#[derive(Drop)]
+#[derive(Clone, Copy)]
 struct Row {
     sum: u64,
     refused: usize,

@@ -5,7 +5,7 @@
 use crate::says::say_byte;
 use std::num::{wrapping_add_usize, wrapping_sub_u8, wrapping_sub_usize};
 
-#[derive(Drop)]
+#[derive(Clone, Copy)]
 pub(crate) struct Words {
     // Whether the text is read between brackets, and whether a command has just ended.
     pub(crate) between: bool,

@@ -16,7 +16,7 @@ use trace::{Judgement, in_range};
 
 // One layer: its plane, its first point in the common list, and its number of points.
 #[repr(C)]
-#[derive(Drop)]
+#[derive(Clone, Copy)]
 pub struct Layer {
     pub plane: i32,
     pub first: usize,
@@ -24,20 +24,20 @@ pub struct Layer {
 }
 
 // The entries of a stack, by value: how many there are, and the first 20 of them.
-#[derive(Drop)]
+#[derive(Clone, Copy)]
 pub struct Stack {
     pub layers: [Layer; 20],
     pub count: usize,
 }
 
-#[derive(Drop)]
+#[derive(Clone, Copy)]
 pub enum StackJudgement {
     // The number of points, and of the steps of all bands.
     Fit { points: usize, steps: usize },
     Refused(Refusal),
 }
 
-#[derive(Drop)]
+#[derive(Clone, Copy)]
 pub enum StripsJudgement {
     // Every band's part is a strip.
     Whole,

@@ -15,7 +15,7 @@ use trace::outline::{outline_of, points_read};
 use whole::cross;
 
 // A value, or a refusal.
-#[derive(Drop)]
+#[derive(Clone, Copy)]
 pub enum Valued {
     Value(i64),
     Refused(Refusal),
@@ -63,7 +63,7 @@ pub fn worth(ox: i32, oy: i32, dx: i32, dy: i32) -> i64
 
 // A strip up to a step: the steps A and the steps B so far, and what they are worth together. Once a byte was no step, or one
 // step too many of its kind, it is no strip whatever follows, `ok` is false, and nothing else counts.
-#[derive(Drop)]
+#[derive(Clone, Copy)]
 struct Walked {
     i: usize,
     j: usize,

@@ -12,7 +12,7 @@ ghost use Rattle.trace.specs.Walk.{inside, same_point, Ready, WalkedOn};
 use fault::{Fault, Refusal, refuse};
 use whole::cross;
 
-#[derive(Drop)]
+#[derive(Clone, Copy)]
 pub enum Judgement {
     // Twice the signed area and the number of points.
     Fit { area: i64, count: usize },
@@ -47,7 +47,7 @@ pub fn refused(judgement: Judgement, place: usize) -> Refusal
     }
 }
 
-#[derive(Drop)]
+#[derive(Clone, Copy)]
 struct Point {
     x: i32,
     y: i32,
@@ -55,7 +55,7 @@ struct Point {
 
 // The trace up to a point: that point, the sum of x·y' − x'·y up to it, whether two neighbours were equal, and whether a
 // coordinate was out of range. Once one is, nothing else counts.
-#[derive(Drop)]
+#[derive(Clone, Copy)]
 struct Walked {
     at: Point,
     area: i64,

@@ -6,7 +6,7 @@ ghost use Rattle.trace.specs.Outline.{fair, fairly, Follows, Wrapped, Outlined};
 
 use crate::in_range;
 
-#[derive(Drop)]
+#[derive(Clone, Copy)]
 pub struct Outline {
     pub x: [i32; 251],
     pub y: [i32; 251],
