@@ -9,10 +9,10 @@ use Rattle.trace.specs.Walk.{inside}
 use Rattle.trace.proofs.is_inside.Statement.{statement}
 use Rattle.trace.proofs.is_inside.Tie as tie
 
-in-range-requires : tie.Need-in-range-requires
+in-range-requires : tie.Need-in_range-requires
 in-range-requires c κs = search rules
 
-in-range-requires-2 : tie.Need-in-range-requires-2
+in-range-requires-2 : tie.Need-in_range-requires-2
 in-range-requires-2 c κs = search rules
 
 returns : tie.Need-returns
@@ -20,7 +20,7 @@ unfolding inside
 returns c =
     let p = c.before.before.before.before.args.p in
     ap₂ ◌&&◌
-    (c.before.before.in-range.ensures ∙ ap in_range (read_back w32 p.x c.before.before.before.struct_told.given.0.1))
+    (c.before.before.in_range.ensures ∙ ap in_range (read_back w32 p.x c.before.before.before.struct_told.given.0.1))
     (c.in-range2.ensures ∙ ap in_range (read_back w32 p.y c.before.struct-told2.given.1.0.1))
 
 pub is_inside_spec : {M : Type 1} → statement M

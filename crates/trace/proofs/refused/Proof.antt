@@ -6,7 +6,7 @@ use Rattle.trace.specs.Refused.{refusal_of}
 use Rattle.trace.proofs.refused.Statement.{statement}
 use Rattle.trace.proofs.refused.Tie as tie
 
-enum-known-judgement : tie.Need-enum-known-judgement
+enum-known-judgement : tie.Need-enum_known-judgement
 enum-known-judgement c = search rules
 
 refuse-requires : tie.Need-refuse-requires

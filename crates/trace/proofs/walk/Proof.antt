@@ -17,10 +17,10 @@ invariant-loop coords count first so-far₀ k₀ so_far k = (k + 1 ≤ count) ×
 abbrev decreases-loop : tie.decreases-loop
 decreases-loop coords count first so-far₀ k₀ so_far k = count - k
 
-point-at-requires : tie.Need-point-at-requires invariant-loop decreases-loop
+point-at-requires : tie.Need-point_at-requires invariant-loop decreases-loop
 point-at-requires c κs = omega arith
 
-is-inside-requires : tie.Need-is-inside-requires invariant-loop decreases-loop
+is-inside-requires : tie.Need-is_inside-requires invariant-loop decreases-loop
 is-inside-requires c κs = search rules
 
 begun-requires : tie.Need-begun-requires invariant-loop decreases-loop
@@ -47,13 +47,13 @@ add-point-at c = omega arith
 point-at-requires-2 : tie.Need-point-at-requires-2 invariant-loop decreases-loop
 point-at-requires-2 c κs = omega arith
 
-walked-on-requires : tie.Need-walked-on-requires invariant-loop decreases-loop
+walked-on-requires : tie.Need-walked_on-requires invariant-loop decreases-loop
 walked-on-requires c κs =
     let coords = c.before.before.before.before.before.before.args.coords.now in
     let n = c.before.before.before.before.before.before.args.count in
     along_ready coords _ _ c.before.before.loop.invariant.1 (omega (arith, counted coords n c.before.before.before.before.before.before.requires.0)) (omega arith)
 
-add-k : tie.Need-overflow-add-k invariant-loop decreases-loop
+add-k : tie.Need-overflow_add-k invariant-loop decreases-loop
 add-k c = omega arith
 
 loop-less : tie.Need-loop-smaller invariant-loop decreases-loop

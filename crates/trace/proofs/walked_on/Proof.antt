@@ -21,7 +21,7 @@ returns c =
     let p = c.before.before.args.p in
     walked_out s p c.begun.result c.begun.ensures.3 (or_true_left s.out (not (inside p)) c.before.if1.true)
 
-is-inside-requires : tie.Need-is-inside-requires
+is-inside-requires : tie.Need-is_inside-requires
 is-inside-requires c κs = search rules
 
 begun-requires-2 : tie.Need-begun-requires-2
@@ -47,7 +47,7 @@ add-t6 c =
     (plus (held w64 (from refl ready.small) tt) (held w64 (cross_holds _ s.at p ready.inside in_p c.before.before.cross.ensures) tt))
     tt
 
-same-point-requires : tie.Need-same-point-requires
+same-point-requires : tie.Need-same_point-requires
 same-point-requires c κs = search rules
 
 returns-3 : tie.Need-returns-3

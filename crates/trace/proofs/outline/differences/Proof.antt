@@ -20,7 +20,7 @@ decreases-loop numbers m copy₀ k₀ copy k = m - k
 loop-holds : tie.Need-loop-init invariant-loop decreases-loop
 loop-holds c = copy_begun _ c.args.m
 
-add-difference : tie.Need-overflow-add-difference invariant-loop decreases-loop
+add-difference : tie.Need-overflow_add-difference invariant-loop decreases-loop
 add-difference c = search rules
 
 mul-difference : tie.Need-overflow-mul-difference invariant-loop decreases-loop
@@ -35,7 +35,7 @@ mul-difference-2 c = search rules
 element-copy-out-difference-2 : tie.Need-element-copy-out-difference-2 invariant-loop decreases-loop
 element-copy-out-difference-2 c = search rules
 
-sub-difference : tie.Need-overflow-sub-difference invariant-loop decreases-loop
+sub-difference : tie.Need-overflow_sub-difference invariant-loop decreases-loop
 sub-difference c =
     let k = c.before.before.before.loop.k in
     fits_holds w32 (minus (held w32 (from refl (c.before.before.before.before.requires.1 (k + 1))) tt) (held w32 (from refl (c.before.before.before.before.requires.1 k)) tt)) tt
@@ -46,7 +46,7 @@ mul-copy c = search rules
 array-set-from-copy : tie.Need-array-set-from-copy invariant-loop decreases-loop
 array-set-from-copy c = search rules
 
-add-k : tie.Need-overflow-add-k invariant-loop decreases-loop
+add-k : tie.Need-overflow_add-k invariant-loop decreases-loop
 add-k c = search rules
 
 loop-less : tie.Need-loop-smaller invariant-loop decreases-loop

@@ -10,12 +10,12 @@ use borrow.Author.Rules.{rules}
 use Rattle.trace.proofs.outline.fair_of.Statement.{statement}
 use Rattle.trace.proofs.outline.fair_of.Tie as tie
 
-in-range-requires : tie.Need-in-range-requires
+in-range-requires : tie.Need-in_range-requires
 in-range-requires c κs = search rules
 
 -- what was tested is the parameter
-same : (c : tie.After-in-range) → c.in-range.result ≡ in_range c.before.args.v
-same c = c.in-range.ensures ∙ ap in_range (held w32 (from32 refl c.before.ranges.v) tt).is
+same : (c : tie.After-in_range) → c.in_range.result ≡ in_range c.before.args.v
+same c = c.in_range.ensures ∙ ap in_range (held w32 (from32 refl c.before.ranges.v) tt).is
 
 returns : tie.Need-returns
 unfolding fair

@@ -42,7 +42,7 @@ mul-copy c = search rules
 array-set-from-copy : tie.Need-array-set-from-copy invariant-loop decreases-loop
 array-set-from-copy c = search rules
 
-add-k : tie.Need-overflow-add-k invariant-loop decreases-loop
+add-k : tie.Need-overflow_add-k invariant-loop decreases-loop
 add-k c = search rules
 
 loop-less : tie.Need-loop-smaller invariant-loop decreases-loop
