@@ -3,12 +3,8 @@ use mathlib.Core.Path.{ap}
 use mir.Syntax.{w32}
 use mir.ValLaws.{to_z-of_z}
 use Rattle.trace.specs.Judged.{in_range}
-use Rattle.trace.proofs.in_range.Statement.{statement}
-use Rattle.trace.proofs.in_range.Tie as tie
+use Rattle.trace.proofs.in_range.Goals as goal
 
-returns : tie.Need-returns
+pub returns : goal.returns
 unfolding in_range
 returns c = ap in_range (to_z-of_z w32 c.args.v c.ranges.v)
-
-pub in_range_spec : {M : Type 1} → statement M
-in_range_spec = tie.close (tie.spec returns)
