@@ -52,6 +52,7 @@ def split(text):
 
 class Turn:
     def __init__(self, names):
+        self.same = []
         self.needs = {key(o): n for o, n in names["needs"]}
         self.steps = {}
         for p in names["places"]:
@@ -59,16 +60,34 @@ class Turn:
         self.places = {p[0]: new for p, new in zip(names["places"], names["places_by_name"])}
         self.above = {p[0]: (p[1], p[2][1]) for p in names["places"]}
         self.asked = {key(n[0]): at[0] for n, at in zip(names["needs"], names["asked_at"])}
+        self.fields = []
+        for a in names["arms"]:
+            for field, step, path in a[2] if a else []:
+                if (a[0], field, step, path) not in self.fields:
+                    self.fields.append((a[0], field, step, path))
+        self.fields.sort(key=lambda f: -len(f[3]))
+        self.calls = {re.sub(r"-.*", "", p[2][1]) for p in names["places"] if p[3]}
+        self.goals = {at[1] for at in names["asked_at"]}
         self.loops = {}
         for (pair, live), changed in zip(names["loops"], names["changed"]):
             self.loops[key(pair[0])] = (pair[1], live, changed)
             self.steps[key(pair[0])] = pair[1]
 
+    def flat(self, text, root):
+        """Without the names that stand for an earlier place: the names of the facts are flat now."""
+        places = "|".join(re.escape(n) for n in self.same) or "(?!)"
+        while True:
+            m = re.search(rf"let (\S+) = \(?(?:(?:{places}) )?{re.escape(root)}(?:\.before)*\)?(?:\.before)* in\s*", text)
+            if not m:
+                break
+            rest = re.sub(rf"(?<![^\s(){{}}\[\],;]){re.escape(m.group(1))}(?=[\s(){{}}\[\],;.]|$)", root, text[m.end():])
+            text = text[: m.start()] + rest
+        return re.sub(rf"\((?:{places}) {re.escape(root)}(?:\.before)*\)", root, text)
+
     def body(self, text, binders, need=None):
         alias = set(binders)
-        for m in re.finditer(r"let (\S+) = (\S+?)((?:\.before)+) in", text):
-            if m.group(2) in alias:
-                alias.add(m.group(1))
+        for b in binders:
+            text = self.flat(text, b)
 
         def one(m):
             if m.group(1) not in alias:
@@ -78,6 +97,11 @@ class Turn:
                 return m.group(0)
             while parts and parts[0] == "before":
                 parts.pop(0)
+            if parts and parts[0] == "pre":
+                parts[0] = "requires"
+            for arm, field, step, path in self.fields:
+                if key(parts[0]) == key(step) and path and parts[1 : 1 + len(path)] == path:
+                    return ".".join([m.group(1), arm, field] + parts[1 + len(path) :])
             if parts:
                 parts[0] = self.steps.get(key(parts[0]), parts[0].replace("type-inv", "type_inv"))
             parts = [p.replace("type-inv", "type_inv") for p in parts]
@@ -86,12 +110,20 @@ class Turn:
         text = CHAIN.sub(one, text)
         # The test of an `if !..` now speaks of what was negated.
         test = r"([^\s(){}\[\],;.]+\.if-not-[^\s(){}\[\],;.]+\.(?:true|false))"
-        text = re.sub(r"not-false _ " + test, r"KEPT \1", text)
-        text = re.sub(r"(?<!KEPT )(?<![^\s(){}\[\],;])" + test, r"(ap not \1)", text).replace("KEPT ", "")
+        called = lambda m: re.search(r"\.if-not-([^\s(){}\[\],;.]+?)(-\d+)?\.", m.group(1)).group(1) in self.calls
+        text = re.sub(r"not-(?:false|true) _ " + test, lambda m: "KEPT " + m.group(1) if called(m) else m.group(0), text)
+        text = re.sub(r"(?<!KEPT )(?<![^\s(){}\[\],;])" + test, lambda m: f"(ap not {m.group(1)})" if called(m) else m.group(0), text)
+        text = text.replace("KEPT ", "")
         arm = need and self.arm(need)
         if arm:
-            text = XX\.1", rf"\1.{arm}.is", text)
+            text = re.sub(r"([^\s(){}\[\],;.]+)\.(?!struct)[^\s(){}\[\],;.]+\.given\.1(?![\w.])", rf"\1.{arm}.is", text)
         return text
+
+    def place(self, m):
+        """The type of a place in the code, which Goals names where a goal is asked there."""
+        old = next((o for o in self.places if key(o) == key(m.group(1))), m.group(1))
+        new = self.places.get(old, old)
+        return ("goal." if new in self.goals else "place.") + new
 
     def arm(self, need):
         """The arm in which a goal is asked."""
@@ -148,8 +180,88 @@ class Turn:
         return new, (None if only else "\n".join(notes + [f"pub {new} : goal.{new}"] + unf + out) + "\n")
 
 
+def lets(turn, decls):
+    """What speaks of a place in the code (`c : tie.After-x`), by name: (its type, its body), over the flat names of c, or None for a place
+    itself."""
+    out = {}
+    place = r"tie\.[^\s(){}\[\],;.]+(?: invariant-\S+ decreases-[^\s)]+)*"
+    turn.same = [d[1] for d in decls if re.search(rf" : (\(\S+ : )?{place}\)? → {place}\s*$", "\n".join(d[2]), re.M)]
+    for flags, name, lines in decls:
+        text = "\n".join(l for l in lines if not l.startswith("--"))
+        m = re.match(rf"(?:(?:pub|abbrev|unfoldable) )*{re.escape(name)} : (.*?)^(unfolding .*?\n)?{re.escape(name)} (.*?)=(\s.*)$", text, re.S | re.M)
+        if not m:
+            continue
+        sig, unf, binders, body = m.group(1).strip(), m.group(2) or "", m.group(3).split(), m.group(4).strip("\n")
+        if re.fullmatch(rf"(\(\S+ : )?{place}\)? → {place}", sig):
+            out[name] = None
+            continue
+        s = re.match(rf"\((\S+) : {place}\)\s*(→)?\s*(.*)$", sig, re.S)
+        if not s or not binders:
+            continue
+        c, rest = binders[0], s.group(3)
+        ty = turn.body(rest, [s.group(1)])
+        ty = re.sub(rf"(?<![^\s(){{}}\[\],;]){re.escape(s.group(1))}(?=[\s).]|$)", "c", ty)
+        made = turn.body(body, [c])
+        made = re.sub(rf"(?<![^\s(){{}}\[\],;]){re.escape(c)}(?=[\s).]|$)", "c", made)
+        if len(binders) > 1:
+            made = f" λ {' '.join(binders[1:])}. {made.strip()}"
+        out[name] = (ty, made, unf.strip())
+    return out
+
+
+def inline(made, known):
+    """An answer with a `let` for each such lemma that it cites."""
+    if made is None:
+        return None
+    arg = r" (?:c(?:\.before)*|\(c(?:\.before)*\)(?:\.before)*)"
+    for name, what in known.items():
+        if what is None:
+            made = re.sub(rf"\({re.escape(name)}{arg}\)", "c", made)
+    need, seen = [], set()
+
+    def visit(text):
+        for name, what in known.items():
+            if what and re.search(rf"(?<![^\s(){{}}\[\],;]){re.escape(name)}{arg}(?=[\s(){{}}\[\],;]|$)", text) and name not in seen:
+                seen.add(name)
+                visit(what[0] + " " + what[1])
+                need.append(name)
+
+    visit(made)
+    if not need:
+        return made
+
+    def cut(text):
+        for name, what in known.items():
+            if what is None:
+                text = re.sub(rf"\({re.escape(name)}{arg}\)", "c", text)
+        for name in need:
+            text = re.sub(rf"\({re.escape(name)}{arg}\)", name, text)
+            text = re.sub(rf"(?<![^\s(){{}}\[\],;]){re.escape(name)}{arg}(?=[\s(){{}}\[\],;]|$)", name, text)
+        return re.sub(r"\bc(\.before)+(?=\.)", "c", text)
+
+    head, clause = re.match(r"(.*?^\S+ c =)(.*)$", made, re.S | re.M).groups() if re.search(r"^\S+ c =", made, re.M) else (None, None)
+    if head is None:
+        return made
+    unf = sorted({w for n in need for w in known[n][2].split()[1:]})
+    if unf:
+        if "\nunfolding " in head:
+            head = re.sub(r"\nunfolding (.*)", lambda m: "\nunfolding " + " ".join(m.group(1).split() + [u for u in unf if u not in m.group(1).split()]), head)
+        else:
+            head = re.sub(r"\n(\S+ c =)$", "\nunfolding " + " ".join(unf) + r"\n\1", head)
+    said = "".join("\n    let " + n + " : " + cut(known[n][0]).strip() + " =" + cut(known[n][1]).replace("\n", "\n    ").rstrip() + "\n    in" for n in need)
+    return head + said + ("\n    " if not clause.startswith("\n") else "") + cut(clause).lstrip(" ")
+
+
 def uses(head, text):
     """The use lines that a text needs."""
+    head = list(head)
+    for word, module in (("ap", "mathlib.Core.Path"), ("not", "mathlib.Core.Bool")):
+        if f"{word} " in text and not any(re.search(rf"[{{ ]{word}[,}}]", l) for l in head) and "(ap not" in text:
+            at = next((i for i, l in enumerate(head) if l.startswith(f"use {module}.{{")), None)
+            if at is None:
+                head.append(f"use {module}.{{{word}}}")
+            else:
+                head[at] = head[at].replace("{", "{" + word + ", ", 1)
     words = set(re.findall(r"[^\s(){}\[\],;.]+", text)) | set(re.findall(r"[^\s(){}\[\],;.]+(?=\.)", text))
     syms = "".join(text.split())
     out = []
@@ -192,6 +304,7 @@ def main():
         notes = [l for l in head if l.startswith("--")]
         head = [l for l in head if l.startswith("use ") and not re.search(r"\.(Tie as tie|Statement\.\{statement\})$", l)]
         inv, ans, helpers, lost = [], [], [], []
+        known = lets(turn, [d for d in decls if not re.search(r" : tie\.Need-", " ".join(d[2]))])
         for flags, name, lines in decls:
             sig = " ".join(l for l in lines if not l.startswith("--"))
             need = re.search(rf"{re.escape(name)} : tie\.Need-(\S+)", sig)
@@ -205,11 +318,13 @@ def main():
                 if new is None:
                     lost.append("\n".join(lines))
                 elif made:
-                    ans.append(made)
+                    ans.append(inline(made, known))
+            elif name in known:
+                continue
             else:
                 h = "\n".join(lines) + "\n"
                 bound = re.findall(r"\((\S+) : tie\.", h)
-                h = re.sub(r"\btie\.([^\s(){}\[\],;.]+)", lambda m: "place." + turn.places.get(m.group(1), m.group(1)), h)
+                h = re.sub(r"\btie\.([^\s(){}\[\],;.]+)(?: invariant-\S+ decreases-[^\s)]+)*", turn.place, h)
                 helpers.append(turn.body(h, bound) if bound else h)
         base = f"use Rattle.{crate}.proofs.{rel}"
         body = "\n".join(ans)

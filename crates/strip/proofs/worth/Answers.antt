@@ -4,24 +4,16 @@ use lib.IntN.{ℤ, ◌-ℤ◌, ◌*ℤ◌}
 use mir.Syntax.{w32, w64}
 use mir.Val.{SFits, to_z, of_z}
 use Rattle.whole.proofs.Machine.{held, from32, returned}
-use borrow.Author.Rules.{rules}
-use Rattle.strip.proofs.worth.Statement.{statement}
-use Rattle.strip.proofs.worth.Tie as tie
+use Rattle.strip.proofs.worth.Goals as goal
 
 -- a parameter, as the callee reads it
 same : (z : ℤ) → SFits w32 z → to_z w32 (of_z w32 z) ≡ z
 same z f = (held w32 (from32 refl f) tt).is
 
-cross-requires : tie.Need-cross-requires
-cross-requires c κs = search rules
-
-returns : tie.Need-returns
+pub returns : goal.returns
 returns c =
-    let a = c.before.args in
-    let fit = c.before.ranges in
+    let a = c.args in
+    let fit = c.ranges in
     returned w64
     (c.cross.ensures ∙ ap₂ ◌-ℤ◌ (ap₂ ◌*ℤ◌ (same a.ox fit.ox) (same a.dy fit.dy)) (ap₂ ◌*ℤ◌ (same a.oy fit.oy) (same a.dx fit.dx)))
-    c.cross.type-inv
-
-pub worth_spec : {M : Type 1} → statement M
-worth_spec = tie.close (tie.spec cross-requires returns)
+    c.cross.type_inv
