@@ -60,6 +60,8 @@ class Turn:
         self.places = {p[0]: new for p, new in zip(names["places"], names["places_by_name"])}
         self.above = {p[0]: (p[1], p[2][1]) for p in names["places"]}
         self.asked = {key(n[0]): at[0] for n, at in zip(names["needs"], names["asked_at"])}
+        self.callee = {key(p[2][0]): names["params"].get(p[3], []) for p in names["places"] if p[3]}
+        self.args = [(o.split(".")[-1], n.split(".")[-1]) for o, n in names["args"] if o.startswith(".args .")]
         self.fields = []
         for a in names["arms"]:
             for field, step, path in a[2] if a else []:
@@ -84,10 +86,29 @@ class Turn:
             text = text[: m.start()] + rest
         return re.sub(rf"\((?:{places}) {re.escape(root)}(?:\.before)*\)", root, text)
 
+    def spread(self, text, root):
+        """With what stands for a part of a chain written out, where the rest of the chain has a new name."""
+        at = 0
+        while True:
+            m = re.compile(rf"let (\S+) = ({re.escape(root)}(?:\.[^\s(){{}}\[\],;.]+)+) in\s*").search(text, at)
+            if not m:
+                return text
+            name, rest = m.group(1), text[m.end() :]
+            use = rf"(?<![^\s(){{}}\[\],;]){re.escape(name)}(?=[\s(){{}}\[\],;.]|$)"
+            ends = re.search(r"\.(given|new|auto)(\.[01])*$", m.group(2))
+            if ends or re.search(use + r"\.(given|new|auto)(?![\w-])", rest):
+                text = text[: m.start()] + re.sub(use, m.group(2), rest)
+                at = m.start()
+            else:
+                at = m.end()
+
     def body(self, text, binders, need=None):
         alias = set(binders)
+        text = text.replace(".type-inv", ".type_inv")
         for b in binders:
-            text = self.flat(text, b)
+            text = self.spread(self.flat(text, b), b)
+        for old, new in self.args:
+            text = re.sub(rf"\.{re.escape(old)}(?![^\s(){{}}\[\],;.])", "." + new, text)
 
         def one(m):
             if m.group(1) not in alias:
@@ -102,6 +123,16 @@ class Turn:
             for arm, field, step, path in self.fields:
                 if key(parts[0]) == key(step) and path and parts[1 : 1 + len(path)] == path:
                     return ".".join([m.group(1), arm, field] + parts[1 + len(path) :])
+            for i, part in enumerate(parts):
+                if part in ("new", "auto") and i + 1 < len(parts) and key(parts[0]) in self.callee:
+                    names, k = self.callee[key(parts[0])], i + 1
+                    while k < len(parts) and parts[k] == "1":
+                        k += 1
+                    if k < len(parts) and parts[k] == "0" and k - i - 1 < len(names):
+                        parts[i + 1 : k + 1] = [names[k - i - 1]]
+                    break
+                if part == "args" and i + 1 < len(parts):
+                    parts[i + 1] = parts[i + 1].replace("-", "_")
             if parts:
                 parts[0] = self.steps.get(key(parts[0]), parts[0].replace("type-inv", "type_inv"))
             parts = [p.replace("type-inv", "type_inv") for p in parts]
@@ -158,8 +189,14 @@ class Turn:
         notes = "".join(l + "\n" for l in lines if l.startswith("--"))
         return notes + head + f"{kind}-{new} l = {body}\n"
 
-    def answer(self, goal, name, lines):
-        new = self.needs.get(key(goal)) or self.needs.get(re.sub("^(overflow|nonzero)_", "", key(goal)))
+    def goal(self, need, name):
+        """A goal's new name, by that of the need or of its answer."""
+        short = [key(need), re.sub("^(overflow|nonzero)_", "", key(need)), re.sub("^slice_bounds_", "part_", key(need)), key(name)]
+        return next((s for s in short if s in self.needs), None)
+
+    def answer(self, goal, name, lines, wanted=False):
+        at = self.goal(goal, name)
+        new = self.needs.get(at)
         if new is None:
             return None, None
         out, only = [], True
@@ -172,12 +209,12 @@ class Turn:
             if not m or START.match(clause):
                 continue
             binders = [b for b in m.group(1).split() if not b.startswith("κ")]
-            body = self.body(m.group(2), binders, key(goal) if key(goal) in self.asked else re.sub("^(overflow|nonzero)_", "", key(goal)))
+            body = self.body(m.group(2), binders, at)
             only = only and TRIVIAL.match(body) and not unf
             out.append(f"{new} {' '.join(binders)} ={body}")
         if not out:
             return new, None
-        return new, (None if only else "\n".join(notes + [f"pub {new} : goal.{new}"] + unf + out) + "\n")
+        return new, (None if only and not wanted else "\n".join(notes + [f"pub {new} : goal.{new}"] + unf + out) + "\n")
 
 
 def lets(turn, decls):
@@ -273,7 +310,7 @@ def uses(head, text):
                 item = item.strip()
                 n = item.split()[-1]
                 parts = [p for p in n.split("◌") if p]
-                if n in words or ("◌" in n and all(p in syms for p in parts)):
+                if n in words or (n == "[]" and "[]" in text) or ("◌" in n and all(p in syms for p in parts)):
                     kept.append(item)
             if kept:
                 out.append(f"{m.group(1)}.{{{', '.join(kept)}}}")
@@ -304,6 +341,12 @@ def main():
         notes = [l for l in head if l.startswith("--")]
         head = [l for l in head if l.startswith("use ") and not re.search(r"\.(Tie as tie|Statement\.\{statement\})$", l)]
         inv, ans, helpers, lost = [], [], [], []
+        heads = {d[1]: turn.needs.get(turn.goal(m.group(1), d[1])) for d in decls for m in [re.search(r" : tie\.Need-(\S+)", " ".join(d[2]))] if m}
+        cited = set()
+        for d in decls:
+            for w in re.findall(r"(?<![^\s(){}\[\],;])[^\s(){}\[\],;.]+", "\n".join(d[2][1:])):
+                if w in heads and w != d[1] and not d[1].endswith(("_spec", "-spec")):
+                    cited.add(w)
         known = lets(turn, [d for d in decls if not re.search(r" : tie\.Need-", " ".join(d[2]))])
         for flags, name, lines in decls:
             sig = " ".join(l for l in lines if not l.startswith("--"))
@@ -314,7 +357,10 @@ def main():
                 made = turn.invariant(name, lines)
                 (inv if made else lost).append(made or "\n".join(lines))
             elif need:
-                new, made = turn.answer(need.group(1), name, lines)
+                new, made = turn.answer(need.group(1), name, lines, name in cited)
+                if made:
+                    for w in cited - {name}:
+                        made = re.sub(rf"(?<![^\s(){{}}\[\],;.]){re.escape(w)}(?=[\s(){{}}\[\],;]|$)", heads[w] or w, made)
                 if new is None:
                     lost.append("\n".join(lines))
                 elif made:
