@@ -15,9 +15,9 @@ use Rattle.joining.specs.declared.choice.Choice.{Choice}
 use Rattle.strip.specs.Arrays.{Arrays}
 use Rattle.joining.specs.Table.{Bounded, Small, along, Chosen}
 
-pub bool_byte : (t : Bool) → bool_byte t ≤ 1
-bool_byte true = omega arith
-bool_byte false = omega arith
+pub bool_byte_most : (t : Bool) → bool_byte t ≤ 1
+bool_byte_most true = omega arith
+bool_byte_most false = omega arith
 
 pub max_left : (a b : ℤ) → le_z b a ≡ true → a ≡ maxℤ a b
 unfolding maxℤ

@@ -7,6 +7,7 @@ use native.Mathlib.Omega.{arith}
 use Rattle.whole.proofs.Telling.{tells_false}
 use Rattle.stack.proofs.StripLaws.{strip_none, strip_a, strip_b, strip_small, strip_tells, strip_whole}
 use Rattle.stack.proofs.is_strip.Goals as goal
+use Rattle.stack.proofs.is_strip.Goals.{then-part-k-eq0, else-part-k-eq0}
 
 pub loop-k-init : goal.loop-k-init
 loop-k-init c = (omega arith, refl, strip_none)
@@ -19,10 +20,10 @@ loop-k-preserved c =
     let l = c.args.part.now in
     let k = c.loop-k.k in
     let s = c.loop-k.invariant.2 in
-    ⊎_elim
-    (λ w. (omega arith, omega arith, strip_a l k (omega arith) w.0.taken w.1 w.2 s))
-    (λ w. (omega arith, omega arith, strip_b l k (omega arith) (omega (arith, w.0.left)) w.1 w.2 s))
-    c.if-part-k-eq0.branch
+    elim c.if-part-k-eq0.branch [
+      then-part-k-eq0 w ↦ (omega arith, omega arith, strip_a l k (omega arith) w.if-part-k-eq0.true w.a-is w.b-is s)
+    | else-part-k-eq0 w ↦ (omega arith, omega arith, strip_b l k (omega arith) (omega arith) w.a-is w.b-is s)
+    ]
 
 pub returns : goal.returns
 returns c =
