@@ -50,6 +50,9 @@ def split(text):
     return head, decls
 
 
+SOURCE = set()
+
+
 class Turn:
     def __init__(self, names):
         self.same = []
@@ -86,6 +89,10 @@ class Turn:
             text = text[: m.start()] + rest
         return re.sub(rf"\((?:{places}) {re.escape(root)}(?:\.before)*\)", root, text)
 
+    def source_name(self, m):
+        name = m.group(1).replace("-", "_")
+        return "." + name if name in SOURCE and key(m.group(1)) not in self.steps else m.group(0)
+
     def spread(self, text, root):
         """With what stands for a part of a chain written out, where the rest of the chain has a new name."""
         at = 0
@@ -107,6 +114,8 @@ class Turn:
         text = text.replace(".type-inv", ".type_inv")
         for b in binders:
             text = self.spread(self.flat(text, b), b)
+        # a name of the source keeps its underscores
+        text = re.sub(r"\.([a-z0-9]+(?:-[a-z0-9]+)+)(?![^\s(){}\[\],;.])", self.source_name, text)
         for old, new in self.args:
             text = re.sub(rf"\.{re.escape(old)}(?![^\s(){{}}\[\],;.])", "." + new, text)
 
@@ -323,6 +332,9 @@ def uses(head, text):
 
 def main():
     crate, data = sys.argv[1], json.load(open(sys.argv[2]))
+    for top, _, fs in os.walk(f"crates/{crate}/src"):
+        for f in fs:
+            SOURCE.update(re.findall(r"[a-z]\w*_\w*", open(os.path.join(top, f), encoding="utf-8").read()))
     for top, _, fs in sorted(os.walk(f"crates/{crate}/proofs")):
         if "Proof.antt" not in fs:
             continue
@@ -371,7 +383,7 @@ def main():
                 h = "\n".join(lines) + "\n"
                 bound = re.findall(r"\((\S+) : tie\.", h)
                 h = re.sub(r"\btie\.([^\s(){}\[\],;.]+)(?: invariant-\S+ decreases-[^\s)]+)*", turn.place, h)
-                helpers.append(turn.body(h, bound) if bound else h)
+                helpers.append(turn.body(h, bound))
         base = f"use Rattle.{crate}.proofs.{rel}"
         body = "\n".join(ans)
         used, todo = [], body
