@@ -111,7 +111,7 @@ class Turn:
 
     def body(self, text, binders, need=None):
         alias = set(binders)
-        text = text.replace(".type-inv", ".type_inv")
+        text = text.replace(".type-inv", ".type_inv").replace(".well-formed", ".well_formed")
         for b in binders:
             text = self.spread(self.flat(text, b), b)
         # a name of the source keeps its underscores
@@ -185,6 +185,10 @@ class Turn:
         names = list(live) + [v for v, c in zip(live, changed) if c]
         if len(names) != len(binders):
             return None
+        plain = [b.rstrip("₀").replace("-", "_") for b in binders]
+        if sorted(plain) == sorted(names):
+            names = plain
+            changed = [b.endswith("₀") for b in binders]
         for i, (b, v) in enumerate(zip(binders, names)):
             first = i < len(live)
             to[b] = f"l.initial.{v}" if first and changed[i] else f"l.{v}"
@@ -241,17 +245,17 @@ def lets(turn, decls):
         if re.fullmatch(rf"(\(\S+ : )?{place}\)? → {place}", sig):
             out[name] = None
             continue
-        s = re.match(rf"\((\S+) : {place}\)\s*(→)?\s*(.*)$", sig, re.S)
+        s = re.match(rf"\((\S+) : {place}\)\s*(→)?\s*(.*)$", sig, re.S) or re.match(rf"{place}()\s*(→)\s*(.*)$", sig, re.S)
         if not s or not binders:
             continue
         c, rest = binders[0], s.group(3)
-        ty = turn.body(rest, [s.group(1)])
-        ty = re.sub(rf"(?<![^\s(){{}}\[\],;]){re.escape(s.group(1))}(?=[\s).]|$)", "c", ty)
+        ty = turn.body(rest, [s.group(1) or c])
+        ty = re.sub(rf"(?<![^\s(){{}}\[\],;]){re.escape(s.group(1) or c)}(?=[\s).]|$)", "c", ty)
         made = turn.body(body, [c])
         made = re.sub(rf"(?<![^\s(){{}}\[\],;]){re.escape(c)}(?=[\s).]|$)", "c", made)
         if len(binders) > 1:
             made = f" λ {' '.join(binders[1:])}. {made.strip()}"
-        out[name] = (ty, made, unf.strip())
+        out[name] = (ty, made, unf.strip(), "abbrev" in flags and len(binders) == 1)
     return out
 
 
@@ -263,12 +267,24 @@ def inline(made, known):
     for name, what in known.items():
         if what is None:
             made = re.sub(rf"\({re.escape(name)}{arg}\)", "c", made)
+
+    def write_out(text):
+        for _ in range(4):
+            for name, what in known.items():
+                if what and what[3]:
+                    whole = "(" + " ".join(what[1].split()) + ")"
+                    text = re.sub(rf"\({re.escape(name)}{arg}\)", lambda m: whole, text)
+                    text = re.sub(rf"(?<![^\s(){{}}\[\],;]){re.escape(name)}{arg}(?=[\s(){{}}\[\],;]|$)", lambda m: whole, text)
+        return text
+
+    made = write_out(made)
     need, seen = [], set()
 
     def visit(text):
         for name, what in known.items():
             if what and re.search(rf"(?<![^\s(){{}}\[\],;]){re.escape(name)}{arg}(?=[\s(){{}}\[\],;]|$)", text) and name not in seen:
                 seen.add(name)
+                what = known[name] = tuple(write_out(w) for w in what[:2]) + what[2:]
                 visit(what[0] + " " + what[1])
                 need.append(name)
 

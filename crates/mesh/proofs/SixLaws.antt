@@ -115,11 +115,11 @@ module _ (st : Stack) {c : List ℤ} (f : AcceptedStack (laid st) c) {k : ℕ} (
 
 -- ---- the loop over the bands
 
-pub record SixSo (st : Stack) (c : List ℤ) (l : List ℕ) (k at lower six : ℕ) : Type 0 where
+pub record SixSo (st : Stack) (c : List ℤ) (l : List ℕ) (k at : ℕ) (lower six : ℤ) : Type 0 where
   pub here : k ≤ st.count - 1
-  pub area : to_z w64 lower ≡ twice_area (trace_of c (entry (laid st) k))
+  pub area : lower ≡ twice_area (trace_of c (entry (laid st) k))
   pub start : at ≡ band_start (laid st) k
-  pub sum : to_z w64 six ≡ sum k (band_rule (laid st) c l)
+  pub sum : six ≡ sum k (band_rule (laid st) c l)
 
 module _ {st : Stack} {c : List ℤ} {l : List ℕ} (f : Fitted st c l) where
   rule_bound : (k : ℕ) → suc k < st.count → Within 8000000000000000000 (band_rule (laid st) c l k)
@@ -136,34 +136,34 @@ module _ {st : Stack} {c : List ℤ} {l : List ℕ} (f : Fitted st c l) where
   rule_returned k h e = (held w64 (from e (rule_bound k h)) tt).is
 
   -- both areas of band k, from the one that is carried
-  pub areas_held : {k at lower six : ℕ} {v : ℤ} → SixSo st c l k at lower six → suc k < st.count
+  pub areas_held : {k at : ℕ} {lower six v : ℤ} → SixSo st c l k at lower six → suc k < st.count
       → v ≡ twice_area (trace_of c (entry (laid st) (k + 1)))
-      → Holds 10000000000000 10000000000000 (to_z w64 lower +ℤ to_z w64 (of_z w64 v)) (band_areas (laid st) c k)
+      → Holds 10000000000000 10000000000000 (lower +ℤ to_z w64 (of_z w64 v)) (band_areas (laid st) c k)
   areas_held {k} s h e =
       plus (from s.area (area_within (layer_accepted st f.stack (omega arith))))
       (held w64 (from (e ∙ ap (λ (n : ℕ). twice_area (trace_of c (entry (laid st) n))) (add-one k)) (area_within (layer_accepted st f.stack h))) tt)
 
-  pub sum_held : {k at lower six : ℕ} {v : ℤ} → SixSo st c l k at lower six → suc k < st.count → v ≡ band_rule (laid st) c l k
-      → Holds 4000000000000000000 4000000000000000000 (to_z w64 six +ℤ to_z w64 (of_z w64 v)) (sum (suc k) (band_rule (laid st) c l))
+  pub sum_held : {k at : ℕ} {lower six v : ℤ} → SixSo st c l k at lower six → suc k < st.count → v ≡ band_rule (laid st) c l k
+      → Holds 4000000000000000000 4000000000000000000 (six +ℤ to_z w64 (of_z w64 v)) (sum (suc k) (band_rule (laid st) c l))
   unfolding sum
   sum_held {k} s h e =
       from (ap₂ ◌+ℤ◌ s.sum (rule_returned k h e)) (sums_within f.stack f.strips (suc k) (omega (arith, laid_long st)))
 
-  pub six_more : {k at lower six next : ℕ} {u v : ℤ} → SixSo st c l k at lower six → suc k < st.count
+  pub six_more : {k at next : ℕ} {lower six u v : ℤ} → SixSo st c l k at lower six → suc k < st.count
       → u ≡ twice_area (trace_of c (entry (laid st) (k + 1))) → v ≡ band_rule (laid st) c l k
-      → next ≡ band_start (laid st) (suc k) → SixSo st c l (k + 1) next (of_z w64 u) (of_z w64 (to_z w64 six +ℤ to_z w64 (of_z w64 v)))
-  six_more {k} {at} {lower} {six} {next} {u} {v} s h a e n = rw (add-one k) (record {
+      → next ≡ band_start (laid st) (suc k) → SixSo st c l (k + 1) next (to_z w64 (of_z w64 u)) (to_z w64 (of_z w64 (six +ℤ to_z w64 (of_z w64 v))))
+  six_more {k} {at} {next} {lower} {six} {u} {v} s h a e n = rw (add-one k) (record {
     here = omega arith;
     area = (held w64 (from (a ∙ ap (λ (n : ℕ). twice_area (trace_of c (entry (laid st) n))) (add-one k)) (area_within (layer_accepted st f.stack h))) tt).is;
     start = n;
     sum = (held w64 (sum_held s h e) tt).is;
   })
 
-  pub six_done : {k at lower six : ℕ} → k ≡ st.count - 1 → SixSo st c l k at lower six → to_z w64 six ≡ six_of (laid st) c l
+  pub six_done : {k at : ℕ} {lower six : ℤ} → k ≡ st.count - 1 → SixSo st c l k at lower six → six ≡ six_of (laid st) c l
   unfolding six_of
   six_done {k} e s = s.sum ∙ ap (λ (n : ℕ). sum n (band_rule (laid st) c l)) (omega (arith, laid_long st))
 
-  pub six_begun : {v : ℤ} → v ≡ twice_area (trace_of c (entry (laid st) 0)) → SixSo st c l 0 0 (of_z w64 v) 0
+  pub six_begun : {v : ℤ} → v ≡ twice_area (trace_of c (entry (laid st) 0)) → SixSo st c l 0 0 (to_z w64 (of_z w64 v)) (pos 0)
   unfolding band_start sum
   six_begun e = record {
     here = omega arith;

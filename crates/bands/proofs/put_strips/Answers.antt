@@ -49,7 +49,7 @@ overflow_add-at c =
     let inside : suc c.loop-k.k < length (laid c.args.stack) = omega (arith, c.loop-k.invariant.1, laid_long c.args.stack)
     in
     let so = c.loop-k.invariant.0 in
-    omega (arith, room_left c.requires.0 c.requires.1 so inside, c.put_strip-at.ensures.steps, so.strips_long, c.well-formed)
+    omega (arith, room_left c.requires.0 c.requires.1 so inside, c.put_strip-at.ensures.steps, so.strips_long, c.well_formed)
 
 pub overflow_add-k-in-loop-k : goal.overflow_add-k-in-loop-k
 overflow_add-k-in-loop-k c =
