@@ -50,11 +50,15 @@ read_unique {f} {x} {y} {z} {r} {s} (read.ReadAnswer.held {es = es} {c = c} {l =
 
 -- ---- refusals
 
+handed_untouched : {es : List Layer} {c : List ℤ} {l : List ℕ} {x y : Lent} {r : FileRead} {q : Refusal} → HandedOver es c l x y r
+    → r.answer ≡ read_is.Refused q → y ≡ x
+handed_untouched (read.HandedOver.refused _) e = refl
+handed_untouched (read.HandedOver.whole _ _ _) e = absurd (let z : ◌≡◌ {A = ℕ} 0 1 = cc in omega arith)
+
 -- "Each refusal returns number and place only; the lent memory is untouched."
 pub read_refused_untouched : {f : List ℕ} {x y : Lent} {r : FileRead} {q : Refusal} → ReadAnswer f x y r → r.answer ≡ read_is.Refused q → y ≡ x
 read_refused_untouched (read.ReadAnswer.refused _) e = refl
-read_refused_untouched (read.ReadAnswer.held h (read.HandedOver.refused _)) e = refl
-read_refused_untouched (read.ReadAnswer.held h (read.HandedOver.whole _ _ _)) e = absurd (let z : ◌≡◌ {A = ℕ} 0 1 = cc in omega arith)
+read_refused_untouched (read.ReadAnswer.held h o) e = handed_untouched o e
 
 -- "a file has 16 here instead of 1 and 12": the stack that is held is refused by 2 to 7 only
 pub stored_number : {k : List ℕ} {es : List Layer} {c : List ℤ} {l : List ℕ} {r : Refusal} → LayersIn k → Stored k es c l

@@ -31,7 +31,7 @@ use Rattle.register.specs.declared.FileRead.{FileRead}
 use Rattle.register.specs.declared.ReadBack.TheVariants as read_is
 use Rattle.register.specs.Contents.{contents, contents_long, register_file}
 use Rattle.register.specs.Stored.{InWord, Stored}
-use Rattle.register.specs.Reading.{Lent, lent, EnoughFor, filled, found, in_file, Holds, ReadAnswer}
+use Rattle.register.specs.Reading.{Lent, lent, EnoughFor, filled, found, in_file, Holds, HandedOver, ReadAnswer}
 use Rattle.register.specs.Reading as read
 use Rattle.register.specs.Accepted.{FileOf, IsFile, IsRead, WrittenFor}
 use Rattle.register.specs.declared.Written.{Written}
@@ -145,13 +145,11 @@ module _ {es : List Layer} {c : List ℤ} (a : AcceptedStack es c) where
 
 -- ---- what was read
 
--- round trip two: a file that is read, and written again from what was read, comes back byte for byte
-pub read_is_written : {f : List ℕ} {x y : Lent} {r : FileRead} {points n : ℕ} → ReadAnswer f x y r → r.answer ≡ read_is.Whole points n
-    → WrittenFor f x y r
+handed_written : {f : List ℕ} {es : List Layer} {c : List ℤ} {l : List ℕ} {x y : Lent} {r : FileRead} {points n : ℕ} → Holds f es c l
+    → HandedOver es c l x y r → r.answer ≡ read_is.Whole points n → WrittenFor f x y r
 unfolding register_file
-read_is_written (read.ReadAnswer.refused x) e = absurd (let z : ◌≡◌ {A = ℕ} 0 1 = cc in omega arith)
-read_is_written (read.ReadAnswer.held h (read.HandedOver.refused x)) e = absurd (let z : ◌≡◌ {A = ℕ} 0 1 = cc in omega arith)
-read_is_written (read.ReadAnswer.held {es = es} {c = c} {l = l} h (read.HandedOver.whole a i s)) e = record {
+handed_written h (read.HandedOver.refused x) e = absurd (let z : ◌≡◌ {A = ℕ} 0 1 = cc in omega arith)
+handed_written {es = es} {c} {l} h (read.HandedOver.whole a i s) e = record {
   es = es;
   c = c;
   l = l;
@@ -164,6 +162,12 @@ read_is_written (read.ReadAnswer.held {es = es} {c = c} {l = l} h (read.HandedOv
   fronts = refl;
   given = refl;
 }
+
+-- round trip two: a file that is read, and written again from what was read, comes back byte for byte
+pub read_is_written : {f : List ℕ} {x y : Lent} {r : FileRead} {points n : ℕ} → ReadAnswer f x y r → r.answer ≡ read_is.Whole points n
+    → WrittenFor f x y r
+read_is_written (read.ReadAnswer.refused x) e = absurd (let z : ◌≡◌ {A = ℕ} 0 1 = cc in omega arith)
+read_is_written (read.ReadAnswer.held h o) e = handed_written h o e
 
 -- ---- over the calls
 
