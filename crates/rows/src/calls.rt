@@ -10,9 +10,11 @@ use bands::Banded;
 use mesh::{Meshed, Volumed};
 use register::Written;
 use stack::{Stack, StackJudgement, StripsJudgement};
+use std::io;
+use std::io::Write;
 
 // What is in hand is lent, as much of it as counts. The bytes that came back are handed out.
-pub(crate) fn call(desk: Desk, words: Words) -> [u8; 50_688] {
+pub(crate) fn call(out: &mut impl Write, desk: Desk, words: Words) -> io::Result<[u8; 50_688]> {
     let all_coords = desk.coords;
     let all_strips = desk.strips;
     let coords = front_numbers(&all_coords, desk.many_coords);
@@ -20,79 +22,90 @@ pub(crate) fn call(desk: Desk, words: Words) -> [u8; 50_688] {
     let name = words.name;
     match name {
         // best_strips
-        560_434_452_407 => return best_strips(desk.stack, words, coords),
+        560_434_452_407 => return best_strips(out, desk.stack, words, coords),
         // write
-        782_433 => return write(desk.stack, words, coords, strips),
+        782_433 => return write(out, desk.stack, words, coords, strips),
         // best, next, list_best
-        56_038 => return best(coords, words),
-        68_088 => return next(coords, words, all_strips),
-        6_644_326_038 => return list_best(coords, words),
+        56_038 => return best(out, coords, words),
+        68_088 => return next(out, coords, words, all_strips),
+        6_644_326_038 => return list_best(out, coords, words),
         _ => {
-            if !shown(desk.stack, words, coords, strips) {
-                compare(desk, words);
+            if !shown(out, desk.stack, words, coords, strips)? {
+                compare(out, desk, words)?;
             }
         }
     }
-    desk.lent
+    Ok(desk.lent)
 }
 
 // The calls that give no list back. Whether it was one of them.
-fn shown(stack: Stack, words: Words, coords: &[i32], strips: &[u8]) -> bool {
+fn shown(
+    out: &mut impl Write,
+    stack: Stack,
+    words: Words,
+    coords: &[i32],
+    strips: &[u8],
+) -> io::Result<bool> {
     let name = words.name;
     match name {
         // judge, judge_strip
-        654_803 => judge(coords, words),
-        654_808_445_234 => judge_strip(coords, words, strips),
+        654_803 => judge(out, coords, words)?,
+        654_808_445_234 => judge_strip(out, coords, words, strips)?,
         // judge_stack
-        654_808_443_469 => tell_fit(stack::judge_stack(stack, coords)),
+        654_808_443_469 => tell_fit(out, stack::judge_stack(stack, coords))?,
         // judge_strips
-        6_548_084_452_407 => tell_whole(stack::judge_strips(stack, strips)),
+        6_548_084_452_407 => tell_whole(out, stack::judge_strips(stack, strips))?,
         // volume
-        7_697_563 => tell_volume(mesh::volume(stack, coords, strips)),
+        7_697_563 => tell_volume(out, mesh::volume(stack, coords, strips))?,
         // triangles
-        7_522_581_597 => triangles(stack, words, coords, strips),
-        _ => return false,
+        7_522_581_597 => triangles(out, stack, words, coords, strips)?,
+        _ => return Ok(false),
     }
-    true
+    Ok(true)
 }
 
-fn tell_fit(answer: StackJudgement) {
+fn tell_fit(out: &mut impl Write, answer: StackJudgement) -> io::Result<()> {
     match answer {
         StackJudgement::Fit { points, steps } => {
-            tell(points);
-            tell(steps);
+            tell(out, points)?;
+            tell(out, steps)
         }
-        StackJudgement::Refused(refusal) => refuse(refusal),
+        StackJudgement::Refused(refusal) => refuse(out, refusal),
     }
 }
 
-fn tell_whole(answer: StripsJudgement) {
+fn tell_whole(out: &mut impl Write, answer: StripsJudgement) -> io::Result<()> {
     match answer {
-        StripsJudgement::Whole => {}
-        StripsJudgement::Refused(refusal) => refuse(refusal),
+        StripsJudgement::Whole => Ok(()),
+        StripsJudgement::Refused(refusal) => refuse(out, refusal),
     }
 }
 
-fn tell_volume(answer: Volumed) {
+fn tell_volume(out: &mut impl Write, answer: Volumed) -> io::Result<()> {
     match answer {
-        Volumed::Six(six) => tell_six(six),
-        Volumed::Refused(refusal) => refuse(refusal),
+        Volumed::Six(six) => tell_six(out, six),
+        Volumed::Refused(refusal) => refuse(out, refusal),
     }
 }
 
-fn tell_triangles(answer: Meshed) {
+fn tell_triangles(out: &mut impl Write, answer: Meshed) -> io::Result<()> {
     match answer {
         Meshed::Closed { triangles, six } => {
-            tell(triangles);
-            say(b" six");
-            tell_six(six);
+            tell(out, triangles)?;
+            say(out, b" six")?;
+            tell_six(out, six)
         }
-        Meshed::Refused(refusal) => refuse(refusal),
+        Meshed::Refused(refusal) => refuse(out, refusal),
     }
 }
 
 // `best_strips STRIPS WORK STEPS CELLS`
-fn best_strips(stack: Stack, words: Words, coords: &[i32]) -> [u8; 50_688] {
+fn best_strips(
+    out: &mut impl Write,
+    stack: Stack,
+    words: Words,
+    coords: &[i32],
+) -> io::Result<[u8; 50_688]> {
     let mut lent = [7u8; 50_688];
     let mut work = [7u8; 63_002];
     match bands::best_strips(
@@ -101,14 +114,15 @@ fn best_strips(stack: Stack, words: Words, coords: &[i32]) -> [u8; 50_688] {
         lend(&mut lent, words.c),
         lend(&mut work, words.d),
     ) {
-        Banded::Steps(steps) => tell(steps),
-        Banded::Refused(refusal) => refuse(refusal),
+        Banded::Steps(steps) => tell(out, steps)?,
+        Banded::Refused(refusal) => refuse(out, refusal)?,
     }
     say_if(
+        out,
         bytes_are(&lent, words.e, 50_688, 7) & work_kept(&work, words.f),
         b" kept",
-    );
-    lent
+    )?;
+    Ok(lent)
 }
 
 // Whether so many work bytes are 0, and all others the guard.
@@ -117,23 +131,36 @@ pub(crate) fn work_kept(work: &[u8], cells: usize) -> bool {
 }
 
 // `triangles NUMBERS USED TOLD`: the answer, or so many numbers of the list alone.
-fn triangles(stack: Stack, words: Words, coords: &[i32], strips: &[u8]) {
+fn triangles(
+    out: &mut impl Write,
+    stack: Stack,
+    words: Words,
+    coords: &[i32],
+    strips: &[u8],
+) -> io::Result<()> {
     let told = words.f;
     let mut list = [7u32; 29_990];
     let answer = mesh::triangles(stack, coords, strips, lend_vertices(&mut list, words.d));
     if told == 0 {
-        tell_triangles(answer);
+        tell_triangles(out, answer)?;
     }
-    say_if(vertices_kept(&list, words.e, told) & (told == 0), b" kept");
+    let kept = vertices_kept(out, &list, words.e, told)?;
+    say_if(out, kept & (told == 0), b" kept")
 }
 
 // `write BYTES USED`
-fn write(stack: Stack, words: Words, coords: &[i32], strips: &[u8]) -> [u8; 50_688] {
+fn write(
+    out: &mut impl Write,
+    stack: Stack,
+    words: Words,
+    coords: &[i32],
+    strips: &[u8],
+) -> io::Result<[u8; 50_688]> {
     let mut lent = [7u8; 50_688];
     match register::write(stack, coords, strips, lend(&mut lent, words.e)) {
-        Written::Bytes(bytes) => tell(bytes),
-        Written::Refused(refusal) => refuse(refusal),
+        Written::Bytes(bytes) => tell(out, bytes)?,
+        Written::Refused(refusal) => refuse(out, refusal)?,
     }
-    say_if(bytes_are(&lent, words.f, 50_688, 7), b" kept");
-    lent
+    say_if(out, bytes_are(&lent, words.f, 50_688, 7), b" kept")?;
+    Ok(lent)
 }

@@ -5,9 +5,11 @@ use crate::pairs::pairs;
 use crate::says::{say, say_if, tell, tell_bytes};
 use crate::sums::fold_bytes;
 use crate::words::Words;
+use std::io;
+use std::io::Write;
 
 // The last of the commands: what has another name is none.
-pub(crate) fn compare(desk: Desk, words: Words) {
+pub(crate) fn compare(out: &mut impl Write, desk: Desk, words: Words) -> io::Result<()> {
     let name = words.name;
     let lent = desk.lent;
     let mut same = false;
@@ -33,25 +35,25 @@ pub(crate) fn compare(desk: Desk, words: Words) {
             same = same_bytes(lent, file, words.f);
         }
         // sum N
-        7_451 => tell(sum(lent, words.f)),
+        7_451 => tell(out, sum(lent, words.f))?,
         // pairs M N
-        695_427 => pairs(words.e, words.f),
+        695_427 => pairs(out, words.e, words.f)?,
         // print FROM TO
-        712_388 => print(lent, words.e, words.f),
+        712_388 => print(out, lent, words.e, words.f)?,
         _ => {
-            say(b"what? ");
-            tell(name);
+            say(out, b"what? ")?;
+            tell(out, name)?;
         }
     }
-    say_if(same, b" same");
+    say_if(out, same, b" same")
 }
 
 fn same_coords(numbers: [i32; 10_000], coords: [i32; 10_000], n: usize) -> bool {
     same_numbers(&numbers, &coords, n)
 }
 
-fn print(list: [u8; 50_688], from: usize, to: usize) {
-    tell_bytes(&list, from, to);
+fn print(out: &mut impl Write, list: [u8; 50_688], from: usize, to: usize) -> io::Result<()> {
+    tell_bytes(out, &list, from, to)
 }
 
 // Of the first `n` bytes.

@@ -4,6 +4,8 @@ use crate::lists::{put, put_run};
 use crate::reads::{files, read, seal};
 use crate::words::{Words, signed};
 use stack::{Layer, Stack, no_layers, with_layer};
+use std::io;
+use std::io::Write;
 use std::num::wrapping_add_usize;
 
 #[derive(Clone, Copy)]
@@ -43,7 +45,7 @@ pub(crate) fn clear() -> Desk {
 }
 
 // By the number of its name. No name, and `#`, is nothing.
-pub(crate) fn command(mut desk: Desk, words: Words) -> Desk {
+pub(crate) fn command(out: &mut impl Write, mut desk: Desk, words: Words) -> io::Result<Desk> {
     let name = words.name;
     match name {
         0 | 243 => {}
@@ -74,9 +76,9 @@ pub(crate) fn command(mut desk: Desk, words: Words) -> Desk {
             desk.coords = numbers;
             desk.many_coords = words.f;
         }
-        _ => return taken(desk, words),
+        _ => return taken(out, desk, words),
     }
-    desk
+    Ok(desk)
 }
 
 fn layer(stack: Stack, words: Words) -> Stack {
@@ -103,7 +105,7 @@ fn line(mut coords: [i32; 10_000], at: usize, words: Words) -> [i32; 10_000] {
 }
 
 // Lists that go from place to place.
-fn taken(mut desk: Desk, words: Words) -> Desk {
+fn taken(out: &mut impl Write, mut desk: Desk, words: Words) -> io::Result<Desk> {
     let name = words.name;
     match name {
         // keep
@@ -130,13 +132,13 @@ fn taken(mut desk: Desk, words: Words) -> Desk {
             desk.file = lent;
             desk.many_file = words.f;
         }
-        _ => return set(desk, words),
+        _ => return set(out, desk, words),
     }
-    desk
+    Ok(desk)
 }
 
 // Bytes that the text sets, and calls.
-fn set(mut desk: Desk, words: Words) -> Desk {
+fn set(out: &mut impl Write, mut desk: Desk, words: Words) -> io::Result<Desk> {
     let name = words.name;
     match name {
         // step AT BYTE
@@ -162,16 +164,16 @@ fn set(mut desk: Desk, words: Words) -> Desk {
             desk.many_file = words.f;
         }
         // read, seal, files
-        71_842 => return read(desk, words),
-        72_850 => return seal(desk),
+        71_842 => return read(out, desk, words),
+        72_850 => return Ok(seal(desk)),
         603_597 => {
             let file = desk.file;
-            files(file, desk.many_file, words);
+            files(out, file, desk.many_file, words)?;
         }
         _ => {
-            let lent = call(desk, words);
+            let lent = call(out, desk, words)?;
             desk.lent = lent;
         }
     }
-    desk
+    Ok(desk)
 }

@@ -2,6 +2,8 @@
 use crate::says::tell;
 use crate::words::signed;
 use stack::{Layer, Stack, layer_at, no_layers};
+use std::io;
+use std::io::Write;
 use std::num::wrapping_add_usize;
 
 // The bytes from `from` up to `to`; all, if they are not there.
@@ -95,19 +97,24 @@ pub(crate) fn numbers_kept(list: &[i32], from: usize) -> bool {
 }
 
 // Whether all vertices from `from` on are the guard. The first `told` are printed.
-pub(crate) fn vertices_kept(list: &[u32], from: usize, told: usize) -> bool {
+pub(crate) fn vertices_kept(
+    out: &mut impl Write,
+    list: &[u32],
+    from: usize,
+    told: usize,
+) -> io::Result<bool> {
     let mut so = true;
     for k in 0..list.len() {
-        so = so & vertex_kept(list[k], from <= k, k < told);
+        so = so & vertex_kept(out, list[k], from <= k, k < told)?;
     }
-    so
+    Ok(so)
 }
 
-fn vertex_kept(vertex: u32, guarded: bool, told: bool) -> bool {
+fn vertex_kept(out: &mut impl Write, vertex: u32, guarded: bool, told: bool) -> io::Result<bool> {
     if told {
-        tell(vertex as usize);
+        tell(out, vertex as usize)?;
     }
-    !guarded | (vertex == 7)
+    Ok(!guarded | (vertex == 7))
 }
 
 fn number_at(list: &[i32], at: usize) -> i32 {
@@ -144,5 +151,5 @@ fn same_layer(one: Layer, other: Layer) -> bool {
 }
 
 pub(crate) fn same_bytes(one: [u8; 50_688], other: [u8; 50_688], n: usize) -> bool {
-    check::same(part(&one, 0, n), part(&other, 0, n))
+    part(&one, 0, n) == part(&other, 0, n)
 }

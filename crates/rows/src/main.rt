@@ -23,23 +23,27 @@ mod words;
 
 use crate::desk::{clear, command};
 use crate::words::{none, turn};
-use libc::STDIN_FILENO;
+use std::io;
+use std::io::{BufWriter, Read, Write};
 
-fn main() {
-    let mut text = [0u8; 150_000];
-    let many = io::read_full(STDIN_FILENO, &mut text);
-    run(&text[..many]);
+fn main(rt: HostRuntime) -> io::Result<()> {
+    let mut text = Vec::new(rt.alloc());
+    rt.reader().take(150_000).read_to_end(&mut text)?;
+    let mut out = BufWriter::new(rt.alloc(), io::writer(&rt))?;
+    run(&mut out, &text)?;
+    out.flush()
 }
 
 // Each command, as it ends.
-fn run(text: &[u8]) {
+fn run(out: &mut impl Write, text: &[u8]) -> io::Result<()> {
     let mut desk = clear();
     let mut words = none(false);
     for k in 0..text.len() {
-        words = turn(words, text[k]);
+        words = turn(out, words, text[k])?;
         if words.ready {
-            desk = command(desk, words);
+            desk = command(out, desk, words)?;
             words = none(words.between);
         }
     }
+    Ok(())
 }

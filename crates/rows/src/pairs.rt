@@ -10,6 +10,8 @@ use crate::lists::lend;
 use crate::pair_calls::{best, judge, list_best, next};
 use crate::says::tell;
 use crate::sums::{fold_refusal, fold_signed};
+use std::io;
+use std::io::Write;
 use std::num::{wrapping_add_usize, wrapping_sub_usize};
 use strip::Valued;
 
@@ -22,12 +24,12 @@ struct Row {
     strips: usize,
 }
 
-pub(crate) fn pairs(m: usize, n: usize) {
+pub(crate) fn pairs(out: &mut impl Write, m: usize, n: usize) -> io::Result<()> {
     let row = row_of(m, n);
-    tell(row.strips);
-    tell(row.refused);
-    tell(row.listed);
-    tell(row.sum as usize);
+    tell(out, row.strips)?;
+    tell(out, row.refused)?;
+    tell(out, row.listed)?;
+    tell(out, row.sum as usize)
 }
 
 fn row_of(m: usize, n: usize) -> Row {

@@ -6,6 +6,8 @@ use crate::words::Words;
 use blocks::Sealing;
 use register::{FileRead, ReadBack};
 use stack::Stack;
+use std::io;
+use std::io::Write;
 use std::num::{wrapping_add_u8, wrapping_add_usize};
 
 pub(crate) fn seal(mut desk: Desk) -> Desk {
@@ -25,7 +27,7 @@ fn sealed(sealing: Sealing) -> usize {
 }
 
 // `read ROOM COORDINATES STEPS`, and what of it is used: `LAYERS NUMBERS STEPS`
-pub(crate) fn read(mut desk: Desk, words: Words) -> Desk {
+pub(crate) fn read(out: &mut impl Write, mut desk: Desk, words: Words) -> io::Result<Desk> {
     let file = desk.file;
     let mut numbers = [7i32; 10_000];
     let mut lent = [7u8; 50_688];
@@ -36,12 +38,12 @@ pub(crate) fn read(mut desk: Desk, words: Words) -> Desk {
         lend(&mut lent, words.c),
     );
     let stack = came.stack;
-    tell_read(came);
-    say_if(only_used(stack, words, &numbers, &lent), b" kept");
+    tell_read(out, came)?;
+    say_if(out, only_used(stack, words, &numbers, &lent), b" kept")?;
     desk.entries = stack;
     desk.numbers = numbers;
     desk.lent = lent;
-    desk
+    Ok(desk)
 }
 
 // Whether all that was lent is the guard, but for what may be used, and the stack has so many layers and nothing behind them.
@@ -51,16 +53,16 @@ fn only_used(stack: Stack, words: Words, numbers: &[i32], lent: &[u8]) -> bool {
         & bytes_are(lent, words.f, lent.len(), 7)
 }
 
-fn tell_read(came: FileRead) {
+fn tell_read(out: &mut impl Write, came: FileRead) -> io::Result<()> {
     let stack = came.stack;
     let answer = came.answer;
     match answer {
         ReadBack::Whole { points, steps } => {
-            tell(stack.count);
-            tell(points);
-            tell(steps);
+            tell(out, stack.count)?;
+            tell(out, points)?;
+            tell(out, steps)
         }
-        ReadBack::Refused(refusal) => refuse(refusal),
+        ReadBack::Refused(refusal) => refuse(out, refusal),
     }
 }
 
@@ -68,13 +70,18 @@ fn tell_read(came: FileRead) {
 //
 // Three counts in one number, below a million each: how many files were read, how many of them were refused with CHECK at block 0, in
 // millions, and how often all lent memory was kept, in millions of millions.
-pub(crate) fn files(mut file: [u8; 50_688], many: usize, words: Words) {
+pub(crate) fn files(
+    out: &mut impl Write,
+    mut file: [u8; 50_688],
+    many: usize,
+    words: Words,
+) -> io::Result<()> {
     let counts = each(lend(&mut file, many), words);
-    tell(counts % 1_000_000);
-    say(b", refused 15 0");
-    tell(counts / 1_000_000 % 1_000_000);
-    say(b", kept");
-    tell(counts / 1_000_000_000_000);
+    tell(out, counts % 1_000_000)?;
+    say(out, b", refused 15 0")?;
+    tell(out, counts / 1_000_000 % 1_000_000)?;
+    say(out, b", kept")?;
+    tell(out, counts / 1_000_000_000_000)
 }
 
 // 256 values at each of 512 places, the last of them the right one.

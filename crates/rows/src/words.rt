@@ -3,6 +3,8 @@
 // A word is a number in decimal digits, with a minus sign or without. A name is read in the same way, each of its bytes less 48 as a
 // digit, so that each name has a number of its own: `keep` is 59·1000 + 53·100 + 53·10 + 64 = 64,894.
 use crate::says::say_byte;
+use std::io;
+use std::io::Write;
 use std::num::{wrapping_add_usize, wrapping_sub_u8, wrapping_sub_usize};
 
 #[derive(Clone, Copy)]
@@ -41,10 +43,10 @@ pub(crate) fn none(between: bool) -> Words {
 }
 
 // One byte more of the text. What stands outside brackets is printed.
-pub(crate) fn turn(mut words: Words, byte: u8) -> Words {
+pub(crate) fn turn(out: &mut impl Write, mut words: Words, byte: u8) -> io::Result<Words> {
     if words.between {
         match byte {
-            b' ' | b'\n' | b';' | b']' => return ended(words, byte),
+            b' ' | b'\n' | b';' | b']' => return Ok(ended(words, byte)),
             b'-' => {
                 words.minus = true;
             }
@@ -52,13 +54,13 @@ pub(crate) fn turn(mut words: Words, byte: u8) -> Words {
                 words.value = shifted(words.value, wrapping_sub_u8(byte, 48));
             }
         }
-        return words;
+        return Ok(words);
     }
     words.between = byte == b'[';
     if byte != b'[' {
-        say_byte(byte);
+        say_byte(out, byte)?;
     }
-    words
+    Ok(words)
 }
 
 // One digit more. What would go past the end of the type is left out.
