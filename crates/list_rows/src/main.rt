@@ -2,38 +2,60 @@
 // of a long one the first line, how many lines and bytes, and the last bytes. Then what happens to the lent slice.
 #![tactic(auto)]
 
-ghost use Rattle.std.specs.Prelude.{◌≡◌, ◌≤◌, length};
+ghost use Rattle.std.specs.Prelude.{◌≡◌, ◌≤◌, length, IfOk};
 
 use fault::number;
-use libc::{STDIN_FILENO, STDOUT_FILENO};
 use listing::Listed;
+use std::io::{BufWriter, ErrorKind, Read, Write};
+use std::rt::Files;
+use std::{fs, io, str};
 
-fn main() {
+fn main(rt: HostRuntime) -> io::Result<()> {
+    let mut out = BufWriter::new(rt.alloc(), io::writer(&rt))?;
     let mut names = [0u8; 2_000];
-    let read = io::read_full(STDIN_FILENO, &mut names);
-    show_all(&names[..read]);
-    lent(b"0 3 0 0 2 0 0 2 1 3 0 0 2 0 0 2", 501_046);
-    lent(b"0 3 0 0 2 0 0 2 1 3 0 0 2 0 0 2", 501_050);
+    let read = read_full(&mut rt.reader(), &mut names)?;
+    show_all(&rt, &mut out, &names[..read])?;
+    lent(&mut out, b"0 3 0 0 2 0 0 2 1 3 0 0 2 0 0 2", 501_046)?;
+    lent(&mut out, b"0 3 0 0 2 0 0 2 1 3 0 0 2 0 0 2", 501_050)?;
+    out.flush()
+}
+
+// Reads until the list is full or a read gives no byte. Answers how many bytes stand at the front of it.
+fn read_full(input: &mut impl Read, list: &mut [u8]) -> io::Result<usize>
+    ensures { IfOk result (λ n. n ≤ length list.new) }
+{
+    let mut done = 0;
+    while done < list.len() {
+        let count = input.read(&mut list[done..])?;
+        if count == 0 {
+            return Ok(done);
+        }
+        done += count;
+    }
+    Ok(done)
 }
 
 // A line for each name.
-fn show_all(names: &[u8]) {
+fn show_all(rt: &impl Files, out: &mut impl Write, names: &[u8]) -> io::Result<()> {
     let mut from = 0;
     while from < names.len() {
         let end = line_end(names, from);
-        show(&names[from..end]);
+        show(rt, out, &names[from..end])?;
         from = end + 1;
     }
+    Ok(())
 }
 
-fn show(name: &[u8]) {
-    io::write_all(STDOUT_FILENO, name);
-    io::write_all(STDOUT_FILENO, b":\n");
-    let fd = os::open_read(name);
+fn show(rt: &impl Files, out: &mut impl Write, name: &[u8]) -> io::Result<()> {
+    out.write_all(name)?;
+    out.write_all(b":\n")?;
+    let Ok(path) = str::from_utf8(name) else {
+        return Err(io::Error::from(ErrorKind::InvalidFilename));
+    };
+    let mut file = fs::open(rt, path)?;
     let mut text = [0u8; 60_001];
-    let read = io::read_full(fd, &mut text);
-    libc::close(fd);
-    print(&text[..read]);
+    let read = read_full(&mut file, &mut text)?;
+    print(out, &text[..read])
 }
 
 // Room for the longest listing.
@@ -43,36 +65,33 @@ fn no_bytes() -> [u8; 501_047]
     [0u8; 501_047]
 }
 
-fn print(text: &[u8]) {
-    let mut out = no_bytes();
-    match listing::listing(text, &mut out) {
-        Listed::Bytes(written) => tell(&out[..written]),
-        Listed::Refused(_) => {
-            io::write_all(STDOUT_FILENO, b"no room\n");
-        }
+fn print(out: &mut impl Write, text: &[u8]) -> io::Result<()> {
+    let mut lines = no_bytes();
+    match listing::listing(text, &mut lines) {
+        Listed::Bytes(written) => tell(out, &lines[..written]),
+        Listed::Refused(_) => out.write_all(b"no room\n"),
     }
 }
 
-fn tell(out: &[u8]) {
-    if out.len() <= 200 {
-        io::write_all(STDOUT_FILENO, out);
+fn tell(out: &mut impl Write, lines: &[u8]) -> io::Result<()> {
+    if lines.len() <= 200 {
+        out.write_all(lines)
     } else {
-        tell_briefly(out);
+        tell_briefly(out, lines)
     }
 }
 
-fn tell_briefly(out: &[u8]) {
-    let first = line_end(out, 0);
-    io::write_all(STDOUT_FILENO, &out[..first]);
-    io::write_all(STDOUT_FILENO, b"\n");
-    io::print_decimal(STDOUT_FILENO, times(out, 10) as u64);
-    io::write_all(STDOUT_FILENO, b" lines, ");
-    io::print_decimal(STDOUT_FILENO, out.len() as u64);
-    io::write_all(STDOUT_FILENO, b" bytes, the last of them:\n");
-    if 26 <= out.len() {
-        let last = out.len() - 26;
-        io::write_all(STDOUT_FILENO, &out[last..]);
+fn tell_briefly(out: &mut impl Write, lines: &[u8]) -> io::Result<()> {
+    let first = line_end(lines, 0);
+    out.write_all(&lines[..first])?;
+    let many = times(lines, 10);
+    let bytes = lines.len();
+    write!(out, "\n{many} lines, {bytes} bytes, the last of them:\n")?;
+    if 26 <= lines.len() {
+        let last = lines.len() - 26;
+        out.write_all(&lines[last..])?;
     }
+    Ok(())
 }
 
 // Where the line that begins at `from` ends.
@@ -116,39 +135,33 @@ fn sevens() -> [u8; 501_050]
 }
 
 // A slice that is a byte too short is left as it was; of a longer one all but the front is.
-fn lent(text: &[u8], bytes: usize) {
-    let mut out = sevens();
-    if bytes <= out.len() {
-        tell_lent(text, &mut out[..bytes]);
+fn lent(out: &mut impl Write, text: &[u8], bytes: usize) -> io::Result<()> {
+    let mut list = sevens();
+    if bytes <= list.len() {
+        tell_lent(out, text, &mut list[..bytes])?;
     }
+    Ok(())
 }
 
-fn tell_lent(text: &[u8], out: &mut [u8]) {
-    tell_listed(listing::listing(text, out));
-    tell_sevens(out);
+fn tell_lent(out: &mut impl Write, text: &[u8], list: &mut [u8]) -> io::Result<()> {
+    tell_listed(out, listing::listing(text, list))?;
+    tell_sevens(out, list)
 }
 
-fn tell_listed(listed: Listed) {
+fn tell_listed(out: &mut impl Write, listed: Listed) -> io::Result<()> {
     match listed {
-        Listed::Bytes(written) => {
-            io::write_all(STDOUT_FILENO, b"written ");
-            io::print_decimal(STDOUT_FILENO, written as u64);
-        }
+        Listed::Bytes(written) => write!(out, "written {written}"),
         Listed::Refused(refusal) => {
-            let fault = refusal.fault;
-            io::write_all(STDOUT_FILENO, b"refused ");
-            io::print_decimal(STDOUT_FILENO, number(fault) as u64);
-            io::write_all(STDOUT_FILENO, b" ");
-            io::print_decimal(STDOUT_FILENO, refusal.place as u64);
+            let fault = number(refusal.fault);
+            let place = refusal.place;
+            write!(out, "refused {fault} {place}")
         }
     }
 }
 
 // Every byte was 7 before the call.
-fn tell_sevens(out: &[u8]) {
-    io::write_all(STDOUT_FILENO, b", bytes lent ");
-    io::print_decimal(STDOUT_FILENO, out.len() as u64);
-    io::write_all(STDOUT_FILENO, b", still as before ");
-    io::print_decimal(STDOUT_FILENO, times(out, 7) as u64);
-    io::write_all(STDOUT_FILENO, b"\n");
+fn tell_sevens(out: &mut impl Write, list: &[u8]) -> io::Result<()> {
+    let bytes = list.len();
+    let same = times(list, 7);
+    writeln!(out, ", bytes lent {bytes}, still as before {same}")
 }
