@@ -55,7 +55,7 @@ SOURCE = set()
 
 class Turn:
     def __init__(self, names):
-        self.same = []
+        self.same, self.hidden = [], {}
         self.needs = {key(o): n for o, n in names["needs"]}
         self.steps = {}
         for p in names["places"]:
@@ -82,12 +82,13 @@ class Turn:
         """Without the names that stand for an earlier place: the names of the facts are flat now."""
         places = "|".join(re.escape(n) for n in self.same) or "(?!)"
         while True:
+            text = re.sub(rf"\((?:{places}) {re.escape(root)}(?:\.before)*\)", root, text)
             m = re.search(rf"let (\S+) = \(?(?:(?:{places}) )?{re.escape(root)}(?:\.before)*\)?(?:\.before)* in\s*", text)
             if not m:
                 break
             rest = re.sub(rf"(?<![^\s(){{}}\[\],;]){re.escape(m.group(1))}(?=[\s(){{}}\[\],;.]|$)", root, text[m.end():])
             text = text[: m.start()] + rest
-        return re.sub(rf"\((?:{places}) {re.escape(root)}(?:\.before)*\)", root, text)
+        return text
 
     def source_name(self, m):
         name = m.group(1).replace("-", "_")
@@ -130,7 +131,7 @@ class Turn:
             if parts and parts[0] == "pre":
                 parts[0] = "requires"
             for arm, field, step, path in self.fields:
-                if key(parts[0]) == key(step) and path and parts[1 : 1 + len(path)] == path:
+                if key(parts[0]) == key(step) and (path or parts[1:]) and parts[1 : 1 + len(path)] == path:
                     return ".".join([m.group(1), arm, field] + parts[1 + len(path) :])
             for i, part in enumerate(parts):
                 if part in ("new", "auto") and i + 1 < len(parts) and key(parts[0]) in self.callee:
@@ -255,11 +256,17 @@ def lets(turn, decls):
         made = re.sub(rf"(?<![^\s(){{}}\[\],;]){re.escape(c)}(?=[\s).]|$)", "c", made)
         if len(binders) > 1:
             made = f" λ {' '.join(binders[1:])}. {made.strip()}"
+        hidden = re.match(r"((?:\{[^{}]*\}\s*)+)(→\s*)?", ty)
+        if hidden:
+            names = [n for g in re.findall(r"\{([^{}]*?) :", hidden.group(1)) for n in g.split()]
+            ty = hidden.group(0).replace("{", "(").replace("}", ")") + ty[hidden.end() :]
+            made = f" λ {' '.join('_' for _ in names)}. {made.strip().removeprefix('λ ')}" if not made.strip().startswith("λ ") else f" λ {' '.join('_' for _ in names)} {made.strip()[2:]}"
+            turn.hidden[name] = len(names)
         out[name] = (ty, made, unf.strip(), "abbrev" in flags and len(binders) == 1)
     return out
 
 
-def inline(made, known):
+def inline(made, known, hidden):
     """An answer with a `let` for each such lemma that it cites."""
     if made is None:
         return None
@@ -297,8 +304,9 @@ def inline(made, known):
             if what is None:
                 text = re.sub(rf"\({re.escape(name)}{arg}\)", "c", text)
         for name in need:
-            text = re.sub(rf"\({re.escape(name)}{arg}\)", name, text)
-            text = re.sub(rf"(?<![^\s(){{}}\[\],;]){re.escape(name)}{arg}(?=[\s(){{}}\[\],;]|$)", name, text)
+            full = name + " _" * hidden.get(name, 0)
+            text = re.sub(rf"\({re.escape(name)}{arg}\)", f"({full})" if full != name else name, text)
+            text = re.sub(rf"(?<![^\s(){{}}\[\],;]){re.escape(name)}{arg}(?=[\s(){{}}\[\],;]|$)", full, text)
         return re.sub(r"\bc(\.before)+(?=\.)", "c", text)
 
     head, clause = re.match(r"(.*?^\S+ c =)(.*)$", made, re.S | re.M).groups() if re.search(r"^\S+ c =", made, re.M) else (None, None)
@@ -392,7 +400,7 @@ def main():
                 if new is None:
                     lost.append("\n".join(lines))
                 elif made:
-                    ans.append(inline(made, known))
+                    ans.append(inline(made, known, turn.hidden))
             elif name in known:
                 continue
             else:

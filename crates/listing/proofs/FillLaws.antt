@@ -29,12 +29,11 @@ use Rattle.listing.proofs.AheadLaws.{none_some, same_some, ahead_none, ahead_mor
 
 -- ---- no number where one is wanted
 
-pub no_number : {t : List ℕ} {k : ℕ} {w : Word} → Next t k w → OneOf (1 ∷ 2 ∷ []) (tag_of the_type w)
+pub no_number : {t : List ℕ} {k : ℕ} {w : Word} → Next t k w → ((z : ℤ) (r : ℕ) → w ≡ Number z r → ⊥)
     → (l : List ℤ) → numbers_at t k ≡ some l → l ≡ []
 no_number (end e) o l f = sym (same_some (sym e ∙ f))
 no_number (bad e) o l f = none_some (sym e ∙ f)
-no_number (number e) (inl o) l f = absurd (eqb-false 0 1 refl o)
-no_number (number e) (inr o) l f = absurd (eqb-false 0 2 refl o)
+no_number (number {z = z} {r = r} e) o l f = absurd (o z r refl)
 
 pub is_number : {t : List ℕ} {k : ℕ} {w : Word} {z : ℤ} {r : ℕ} → Next t k w → w ≡ Number z r
     → numbers_at t k ≡ also (some z) (numbers_at t r)

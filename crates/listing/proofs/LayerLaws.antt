@@ -33,7 +33,7 @@ use Rattle.listing.proofs.FillLaws.{no_number, is_number}
 
 -- ---- a number of points
 
-pub count_missing : {t : List ℕ} {k : ℕ} {w : Word} → Next t k w → OneOf (1 ∷ 2 ∷ []) (tag_of the_type w) → CountRead t k Count.Lost
+pub count_missing : {t : List ℕ} {k : ℕ} {w : Word} → Next t k w → ((z : ℤ) (r : ℕ) → w ≡ Number z r → ⊥) → CountRead t k Count.Lost
 count_missing n o = uncounted (λ m l e. let q = no_number n o (pos m ∷ l) e in let z : ◌≡◌ {A = ℕ} 0 1 = cc in omega arith)
 
 pub count_negative : {t : List ℕ} {k : ℕ} {w : Word} {z : ℤ} {r : ℕ} → Next t k w → w ≡ Number z r → lt_z z (pos 0) ≡ true
@@ -82,7 +82,7 @@ layer_is z m cs l e =
 
 -- ---- a layer, as it was read
 
-pub layer_no_plane : {t : List ℕ} {k : ℕ} {w : Word} {room room' : List ℤ} → Next t k w → OneOf (1 ∷ 2 ∷ []) (tag_of the_type w)
+pub layer_no_plane : {t : List ℕ} {k : ℕ} {w : Word} {room room' : List ℤ} → Next t k w → ((z : ℤ) (r : ℕ) → w ≡ Number z r → ⊥)
     → LayerRead t k room room' Nothing
 unfolding layer_of
 layer_no_plane n o = other (λ l e. ap layer_of (no_number n o l e))

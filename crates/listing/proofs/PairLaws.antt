@@ -28,9 +28,8 @@ use Rattle.listing.proofs.LayerLaws.{layer_is}
 
 -- ---- what follows the upper layer
 
-pub more_follows : {t : List ℕ} {k : ℕ} {w : Word} → Next t k w → OneOf (0 ∷ 2 ∷ []) (tag_of the_type w) → numbers_at t k ≡ some [] → ⊥
-more_follows (end e) (inl o) f = eqb-false 1 0 refl o
-more_follows (end e) (inr o) f = eqb-false 1 2 refl o
+pub more_follows : {t : List ℕ} {k : ℕ} {w : Word} → Next t k w → (w ≡ End → ⊥) → numbers_at t k ≡ some [] → ⊥
+more_follows (end e) o f = o refl
 more_follows (bad e) o f = none_some (sym e ∙ f)
 more_follows {t} (number {z = z} {r = r} e) o f =
     let rest = also_rest z (numbers_at t r) [] (sym e ∙ f) in
@@ -123,7 +122,7 @@ upper_missing {t} {z} {m} {r} {a} {a'} {b} {b'} w d q = go (subst (LayerRead t r
 
 pub more_behind : {t : List ℕ} {z y : ℤ} {m n r s : ℕ} {a a' b b' : List ℤ} {f : Found} {w : Word} → Lower t z m r a a'
     → LayerRead t r b b' f
-    → f ≡ Layer y n s → Next t s w → OneOf (0 ∷ 2 ∷ []) (tag_of the_type w) → reads t ≡ text
+    → f ≡ Layer y n s → Next t s w → (w ≡ End → ⊥) → reads t ≡ text
 more_behind {t} {z} {y} {m} {n} {r} {s} {a} {a'} {b} {b'} w d q x o = go (subst (LayerRead t r b b') q d)
   where
     go : LayerRead t r b b' (Layer y n s) → reads t ≡ text
