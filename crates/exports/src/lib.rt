@@ -1,5 +1,5 @@
-// The entry points for programs in other languages, under plain names; include/register.h declares them. An answer is a status (a number,
-// which is 0 for success, 100 for none left, else the refusal's, and a place) and what was found.
+// The entry points over plain numbers and slices, for Rattle; the crate `exports_c` hands them to C under the same names. An answer is a
+// status (a number, which is 0 for success, 100 for none left, else the refusal's, and a place) and what was found.
 #![tactic(auto)]
 
 pub mod files;
