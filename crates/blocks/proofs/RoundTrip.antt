@@ -9,8 +9,6 @@ use native.Mathlib.Decide.{ℕ_discrete}
 use native.Mathlib.Omega.{arith}
 use lib.ListN.{length, get_or, take, drop, replicate, length-append, length-take, length-drop, length-replicate, take-append-drop, get_or-append}
 use lib.Seq.{take_at, drop_at, take-append-le, take-take, drop-drop, length-take-le, get_or-append-add, get_or-take, get_or-drop, ext_get_or}
-use Rattle.blocks.specs.declared.BlocksJudgement.{BlocksJudgement}
-use Rattle.blocks.specs.declared.BlocksJudgement.TheVariants as blocks-are
 use Rattle.blocks.specs.Blocks.{tail_of, padded, block_of, sealed, blocks_for, file_of, block_at, contents_at, contents_of}
 use Rattle.blocks.specs.Faults.{CheckFault, Sound}
 use Rattle.blocks.specs.Opened.{place_of, Opened}

@@ -34,7 +34,7 @@ use Rattle.joining.specs.Answers.{Enough, HandedIn, NextAnswer}
 use Rattle.joining.proofs.NextCases.{below, none_left}
 use Rattle.strip.proofs.BytesLaws.{numbers_exactly}
 use Rattle.cases.proofs.Lists.{clear, turned_next, none_next}
-use Rattle.cases.specs.Table.{Row, valued, best, first, Answered, AllHold, none, and, T, later, repeated, turned, flat, eight, others, eight_strips, four_strips, lists, rows}
+use Rattle.cases.specs.Table.{Row, valued, best, Answered, AllHold, none, and, T, later, repeated, turned, flat, eight, others, eight_strips, four_strips, lists, rows}
 
 -- ---- the traces
 

@@ -13,7 +13,6 @@ use Rattle.strip.specs.Judging.{StripJudged}
 use Rattle.strip.specs.Status.{valued_status}
 use Rattle.strip.specs.declared.Valued.TheVariants.{Value}
 use Rattle.joining.specs.declared.Followed.{Followed}
-use Rattle.joining.specs.declared.Followed.TheVariants as Followed
 use Rattle.joining.specs.Answers.{NextAnswer}
 use Rattle.joining.specs.Status.{followed_status}
 

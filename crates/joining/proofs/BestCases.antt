@@ -1,6 +1,6 @@
 -- The answer of `best`, case by case, from facts about the traces and the room. Assumes nothing.
-use mathlib.Core.Path.{◌≡◌, refl}
-use mathlib.Core.Logic.{◌⊎◌, inl, inr}
+use mathlib.Core.Path.{refl}
+use mathlib.Core.Logic.{inl, inr}
 use mathlib.Core.List.{List}
 use lib.IntN.{ℤ}
 use Rattle.fault.specs.declared.Refusal.{Refusal}

@@ -18,13 +18,10 @@ use Rattle.strip.specs.Worth.{W}
 use Rattle.strip.specs.Bytes.{bytes}
 use Rattle.strip.proofs.BytesLaws.{same_steps}
 use Rattle.strip.specs.declared.Valued.{Valued}
-use Rattle.strip.specs.declared.Valued.TheVariants as Valued
 use Rattle.joining.specs.declared.Followed.{Followed}
-use Rattle.joining.specs.declared.Followed.TheVariants as Followed
 use Rattle.joining.specs.Answers.{NextOf, NoneLeftOf, HandedIn, strip_bytes, Given, Cleared, Untouched, best_gates, next_gates, BestAnswer, best, NextAnswer, next, none_left}
 use Rattle.joining.specs.Answers as Answers
 use Rattle.joining.specs.declared.Run.{Run}
-use Rattle.joining.specs.declared.Run.TheVariants as Run
 use Rattle.joining.specs.Listing.{Beginning, all, some, lined, list_gates, ListAnswer, listed}
 use Rattle.joining.specs.Listing as Listing
 use Rattle.joining.specs.Outcomes.{Same, SameBeginning}

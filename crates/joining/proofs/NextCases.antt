@@ -1,6 +1,6 @@
 -- The answer of `next`, case by case, from facts about the traces, the room and the strip handed in. Assumes nothing.
 use mathlib.Core.Path.{◌≡◌, refl, subst}
-use mathlib.Core.Logic.{◌⊎◌, inl, inr}
+use mathlib.Core.Logic.{inl, inr}
 use mathlib.Core.List.{List}
 use lib.IntN.{ℤ}
 use lib.Signed.{◌<ℤ◌}

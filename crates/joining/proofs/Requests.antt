@@ -1,7 +1,7 @@
 -- What is refused of a request for a next strip, exactly: over accepted traces with room a request is refused exactly if the strip handed in is
 -- not best, whoever made it; and ROOM, STRIP and BELOW of `best`, `next` and `list_best` are given exactly when 01 says. By the gates:
 -- what has passed them is not stopped, and two answers for one input coincide. Assumes nothing.
-use mathlib.Core.Path.{◌≡◌, refl, sym, ap, ◌∙◌}
+use mathlib.Core.Path.{◌≡◌, refl, sym, ap}
 use mathlib.Core.Logic.{◌↔◌, inl, inr}
 use mathlib.Core.List.{List}
 use Prim.Native.Nat.{ℕ}
@@ -15,11 +15,8 @@ use Rattle.fault.proofs.GateLaws.{holds, one_stop, stopped_not_passed, due_singl
 use Rattle.strip.specs.Pair.{Pair}
 use Rattle.strip.proofs.PairLaws.{traces_open, traces_single}
 use Rattle.strip.specs.declared.Valued.{Valued}
-use Rattle.strip.specs.declared.Valued.TheVariants as Valued
 use Rattle.joining.specs.declared.Followed.{Followed}
-use Rattle.joining.specs.declared.Followed.TheVariants as Followed
 use Rattle.joining.specs.declared.Run.{Run}
-use Rattle.joining.specs.declared.Run.TheVariants as Run
 use Rattle.joining.specs.Answers.{Enough, HandedIn, HandedBest, best_gates, next_gates, BestAnswer, NextAnswer}
 use Rattle.joining.specs.Answers as answer
 use Rattle.joining.specs.Listing.{EnoughLines, list_gates, ListAnswer}

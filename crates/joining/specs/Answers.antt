@@ -13,7 +13,6 @@ use Rattle.strip.specs.Worth.{value_of}
 use Rattle.strip.specs.Bytes.{bytes, IsStrip}
 use Rattle.strip.specs.declared.Valued.{Valued}
 use Rattle.strip.specs.declared.Valued.TheVariants.{Value}
-use Rattle.strip.specs.declared.Valued.TheVariants as Valued
 use Rattle.joining.specs.declared.Followed.{Followed}
 use Rattle.joining.specs.declared.Followed.TheVariants.{Next, NoneLeft, Refused}
 

@@ -2,9 +2,7 @@
 use Rattle.fault.specs.declared.Status.{Status}
 use Rattle.fault.specs.Status.{success, none_left, status_of}
 use Rattle.joining.specs.declared.Followed.{Followed}
-use Rattle.joining.specs.declared.Followed.TheVariants as Followed
 use Rattle.joining.specs.declared.Run.{Run}
-use Rattle.joining.specs.declared.Run.TheVariants as Run
 
 abbrev pub followed_status : Followed → Status
 followed_status (Followed.Next v) = success

@@ -2,7 +2,6 @@
 -- stands where one is wanted. Assumes nothing.
 use mathlib.Core.Path.{◌≡◌, refl, sym, ap, ap₂, ◌∙◌}
 use mathlib.Core.Bool.{Bool, true, false}
-use mathlib.Core.Logic.{inl, inr}
 use mathlib.Core.List.{List, [], ◌∷◌, ◌++◌, append_assoc, append-nil}
 use mathlib.Core.Option.{some}
 use Prim.Native.Nat.{ℕ, suc, ◌+◌, ◌≤◌, ◌<◌}
@@ -13,9 +12,7 @@ use lib.Dec.{ltb}
 use lib.ListN.{length, get_or, take, drop, set, length-append, length-take, length-drop, drop_of_length-le, replicate, length-replicate}
 use lib.ListN.{replicate-append-replicate}
 use lib.Seq.{take_all, take-nil, drop-cons, set-append_seam, set_out, take-append-le, take-append_seam}
-use borrow.Author.Tests.{eqb-false, ltb-true, ltb-false}
-use denote.Enum.Declared.{tag_of}
-use types.Run.{OneOf}
+use borrow.Author.Tests.{ltb-true, ltb-false}
 use Rattle.listing.specs.declared.numeral.Word.{Word}
 use Rattle.listing.specs.declared.numeral.Word.TheVariants.{Number}
 use Rattle.listing.specs.declared.asked.Place.{Place}
@@ -24,7 +21,6 @@ use Rattle.listing.specs.Asked.{also}
 use Rattle.listing.specs.Scan.{numbers_at, Next, end, bad, number}
 use Rattle.listing.specs.Answer.{front}
 use Rattle.listing.specs.Filling.{ahead, CoordTaken, on, lost, CoordsRead, all, short}
-use Rattle.listing.specs.contracts.numeral.Word.{the_type}
 use Rattle.listing.proofs.AheadLaws.{none_some, same_some, ahead_none, ahead_more, ahead_rest}
 
 -- ---- no number where one is wanted

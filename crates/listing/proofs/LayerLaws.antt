@@ -14,8 +14,6 @@ use lib.Dec.{T}
 use mir.Syntax.{w64}
 use mir.Val.{Fits}
 use borrow.Author.Tests.{ltb-true, le-leb, lt-leb}
-use denote.Enum.Declared.{tag_of}
-use types.Run.{OneOf}
 use Rattle.whole.proofs.TestLaws.{true≢false}
 use Rattle.listing.specs.declared.numeral.Word.{Word}
 use Rattle.listing.specs.declared.numeral.Word.TheVariants.{Number}
@@ -27,7 +25,6 @@ use Rattle.listing.specs.declared.asked.Found.TheVariants.{Layer, Nothing}
 use Rattle.listing.specs.Asked.{also, no, layer, layer_of}
 use Rattle.listing.specs.Scan.{numbers_at, Next}
 use Rattle.listing.specs.Filling.{CountRead, points, uncounted, CoordsRead, all, short, LayerRead, read, other}
-use Rattle.listing.specs.contracts.numeral.Word.{the_type}
 use Rattle.listing.proofs.AheadLaws.{heads, also_rest, ahead_two}
 use Rattle.listing.proofs.FillLaws.{no_number, is_number}
 

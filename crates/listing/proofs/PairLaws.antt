@@ -1,16 +1,13 @@
 -- The whole text: what follows the lower layer must be the upper one, and nothing may follow that. Each way out of the reader is a
 -- case of the definition, taken one layer at a time. Assumes nothing.
 use mathlib.Core.Path.{◌≡◌, refl, sym, ap, ap₂, ◌∙◌, subst}
-use mathlib.Core.Logic.{inl, inr}
 use mathlib.Core.List.{List, [], ◌∷◌}
 use mathlib.Core.Option.{Option, none, some}
 use Prim.Native.Nat.{ℕ, ◌*◌, ◌≤◌, ◌<◌}
 use native.Mathlib.Omega.{arith}
 use lib.IntN.{ℤ, pos}
 use lib.ListN.{length, replicate}
-use borrow.Author.Tests.{eqb-false, le-leb, lt-leb}
-use denote.Enum.Declared.{tag_of}
-use types.Run.{OneOf}
+use borrow.Author.Tests.{le-leb, lt-leb}
 use Rattle.trace.specs.Points.{count}
 use Rattle.listing.specs.declared.numeral.Word.{Word}
 use Rattle.listing.specs.declared.numeral.Word.TheVariants.{End}
@@ -22,7 +19,6 @@ use Rattle.listing.specs.Asked.{Reading, text, pair, no, layer_of, with_upper, w
 use Rattle.listing.specs.Scan.{numbers_at, Next, end, bad, number}
 use Rattle.listing.specs.Answer.{parsed_of, front, held_a, held_b, Answered}
 use Rattle.listing.specs.Filling.{ahead, LayerRead, read, other, PairRead, asked}
-use Rattle.listing.specs.contracts.numeral.Word.{the_type}
 use Rattle.listing.proofs.AheadLaws.{none_some, also_rest}
 use Rattle.listing.proofs.LayerLaws.{layer_is}
 

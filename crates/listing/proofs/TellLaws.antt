@@ -1,6 +1,6 @@
 -- What is said of the pair that was read: a trace whose judgement is fit stands whole in its list, with its area; planes that rise are
 -- at most 200,000 apart; and what is written from place 0 on stands at the front. Assumes nothing.
-use mathlib.Core.Path.{◌≡◌, refl, sym, ap, ◌∙◌, subst}
+use mathlib.Core.Path.{◌≡◌, refl, ap, ◌∙◌, subst}
 use mathlib.Core.List.{List, ◌++◌}
 use Prim.Native.Nat.{ℕ, ◌*◌, ◌≤◌}
 use native.Mathlib.Omega.{arith}

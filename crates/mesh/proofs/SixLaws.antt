@@ -5,16 +5,15 @@ use mathlib.Core.List.{List}
 use Prim.Native.Nat.{ℕ, suc, ◌+◌, ◌-◌, ◌≤◌, ◌<◌}
 use native.Mathlib.Numerals.{add-one}
 use native.Mathlib.Omega.{arith}
-use lib.IntN.{ℤ, pos, ◌+ℤ◌, ◌-ℤ◌, ◌*ℤ◌}
+use lib.IntN.{ℤ, pos, ◌+ℤ◌, ◌-ℤ◌}
 use lib.ListN.{length}
-use lib.Signed.{quot_z}
 use mir.Syntax.{w32, w64}
 use mir.Val.{to_z, of_z}
 use Rattle.whole.specs.Between.{Within}
 use Rattle.whole.specs.Sum.{sum}
 use Rattle.whole.proofs.Linear.{zsum, znat}
 use Rattle.whole.proofs.Bounds.{between_sum, between_sub}
-use Rattle.whole.proofs.Machine.{Holds, held, from, plus, minus, times}
+use Rattle.whole.proofs.Machine.{Holds, held, from, plus, minus}
 use Rattle.fault.specs.declared.Fault.{Fault}
 use Rattle.trace.specs.declared.Judgement.{Judgement}
 use Rattle.trace.specs.declared.Judgement.TheVariants.{Fit, Unfit}

@@ -4,7 +4,7 @@ use mathlib.Core.Path.{◌≡◌, refl, sym, ap, ap₂, ◌∙◌, subst}
 use mathlib.Core.Bool.{true, false, ◌||◌}
 use mathlib.Core.Logic.{inl, inr}
 use mathlib.Core.List.{List}
-use Prim.Native.Nat.{ℕ, ◌+◌, ◌*◌, ◌-◌, ◌/◌, ◌≤◌, ◌<◌}
+use Prim.Native.Nat.{ℕ, ◌*◌, ◌-◌, ◌/◌, ◌≤◌}
 use native.Mathlib.Omega.{arith}
 use lib.Dec.{ltb}
 use lib.IntN.{ℤ}
@@ -38,7 +38,7 @@ use Rattle.register.specs.Reading.{Lent, lent, EnoughFor, lost, HandedOver, in_f
 use Rattle.register.specs.Reading as read
 use Rattle.register.specs.Answering.{contents_end, Layered, Reaches, Decodes, right, wrong, ReadFrom}
 use Rattle.register.proofs.StoredLaws.{layers_in_two, stored_ended}
-use Rattle.register.proofs.ExtentLaws.{layers_of_long, layered_many, steps_at_lem}
+use Rattle.register.proofs.ExtentLaws.{layers_of_long, steps_at_lem}
 
 -- ---- the number of layers
 

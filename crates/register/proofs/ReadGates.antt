@@ -1,6 +1,6 @@
 -- The answer of `read`, case by case: from facts to the gate that stops, and from what a file holds to open gates. A file leaves one number of
 -- blocks, and contents of some layers hold one stack with its strips. Assumes nothing.
-use mathlib.Core.Path.{◌≡◌, refl, subst}
+use mathlib.Core.Path.{◌≡◌, refl}
 use mathlib.Core.Logic.{inl, inr}
 use mathlib.Core.List.{List}
 use Prim.Native.Nat.{ℕ, ◌<◌}

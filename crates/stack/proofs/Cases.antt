@@ -1,6 +1,6 @@
 -- The judgement of a stack and of its strips, case by case: from facts to the gate that stops, and from an accepted stack or right strips to
 -- open gates. Assumes nothing.
-use mathlib.Core.Path.{◌≡◌, refl, sym, ap, ap₂, ◌∙◌, subst}
+use mathlib.Core.Path.{◌≡◌, refl, sym, ap₂, ◌∙◌, subst}
 use mathlib.Core.Logic.{inl, inr}
 use mathlib.Core.List.{List, ◌∷◌}
 use Prim.Native.Nat.{ℕ, suc, ◌-◌, ◌%◌, ◌<◌}

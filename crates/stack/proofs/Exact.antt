@@ -3,7 +3,7 @@
 use mathlib.Core.Path.{◌≡◌, refl, sym, ap, ap₂, subst}
 use mathlib.Core.Logic.{inl, inr, ◌↔◌}
 use mathlib.Core.List.{List}
-use Prim.Native.Nat.{ℕ, suc, ◌-◌, ◌/◌, ◌%◌, ◌≤◌, ◌<◌}
+use Prim.Native.Nat.{ℕ, ◌/◌, ◌%◌, ◌≤◌, ◌<◌}
 use native.Mathlib.Omega.{arith}
 use lib.IntN.{ℤ}
 use lib.ListN.{length}
@@ -19,7 +19,7 @@ use Rattle.stack.specs.declared.StackJudgement.{StackJudgement}
 use Rattle.stack.specs.declared.StackJudgement.TheVariants.{Fit, Refused}
 use Rattle.stack.specs.declared.StripsJudgement.{StripsJudgement}
 use Rattle.stack.specs.declared.StripsJudgement.TheVariants as strips-are
-use Rattle.stack.specs.Entries.{entry, trace_of, steps}
+use Rattle.stack.specs.Entries.{entry, steps}
 use Rattle.stack.specs.Faults.{LayersRight, Spanned, TraceFault, AcceptedStack, StackJudged, fit}
 use Rattle.stack.specs.Faults as stack_is
 use Rattle.stack.specs.Strips.{StripsRight, StripsJudged, whole}

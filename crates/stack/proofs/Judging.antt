@@ -1,6 +1,6 @@
 -- What each answer of the judging functions rests on, from the facts that led there to the case of 01's table. A trace that is
 -- accepted has no fault, so the first layer whose trace is not fit is the lowest at fault. Assumes nothing.
-use mathlib.Core.Path.{◌≡◌, refl, sym, ap, ap₂, ◌∙◌, subst}
+use mathlib.Core.Path.{◌≡◌, sym, ap, ap₂, ◌∙◌, subst}
 use mathlib.Core.Bool.{true, false, ◌||◌}
 use mathlib.Core.List.{List}
 use Prim.Native.Nat.{ℕ, ◌/◌, ◌≤◌, ◌<◌, min}

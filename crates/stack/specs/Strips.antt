@@ -1,6 +1,6 @@
 -- 01: "a stack's strips one after another, fill their slice exactly; any other length is STRIP at place 0"; else the lowest band
 -- whose own part, cut by the counts, is no strip.
-use Rattle.std.specs.Prelude.{◌≡◌, List, [], ◌∷◌, ℕ, suc, ◌+◌, ◌-◌, ◌≤◌, ◌<◌, length, take, drop}
+use Rattle.std.specs.Prelude.{◌≡◌, List, [], ◌∷◌, ℕ, suc, ◌+◌, ◌-◌, ◌<◌, length, take, drop}
 use Rattle.fault.specs.declared.Fault.TheVariants.{Layers, Strip}
 use Rattle.fault.specs.declared.Refusal.{Refusal}
 use Rattle.fault.specs.Gates.{Gate, unless, Placed, Stopped}

@@ -1,6 +1,6 @@
 -- Two traces are either a pair or refused, never both, and refused in one way: each trace is given one judgement, and "fit"
 -- exactly if it is accepted. Assumes nothing.
-use mathlib.Core.Path.{◌≡◌, refl, sym, ap, ◌∙◌, subst}
+use mathlib.Core.Path.{◌≡◌, ap, subst}
 use mathlib.Core.Logic.{◌⊎◌, inl, inr}
 use mathlib.Core.List.{List}
 use Prim.Native.Nat.{ℕ, ◌≤◌}

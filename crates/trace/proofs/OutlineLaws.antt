@@ -10,7 +10,7 @@ use lib.IntN.{ℤ, pos, ◌-ℤ◌}
 use lib.ListN.{length, get_or, take, set, replicate, length-set, length-map, get_or-map, get_or-eq_default}
 use lib.Seq.{get_or-set_same, get_or-set_other, get_or-take, length-take-le, take_all, ext_get_or}
 use Rattle.whole.specs.Between.{Within}
-use Rattle.whole.proofs.Bounds.{between_sub, zero_within}
+use Rattle.whole.proofs.Bounds.{zero_within}
 use Rattle.trace.specs.declared.outline.Outline.{Outline}
 use Rattle.trace.specs.Points.{count, px, py}
 use Rattle.trace.specs.Judged.{in_range}

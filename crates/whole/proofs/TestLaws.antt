@@ -1,7 +1,7 @@
 -- What the tests of specs/Tests.antt say, both ways, and sums and tests over numbers that agree. Assumes nothing.
 use mathlib.Core.Path.{◌≡◌, refl, sym, ap, ap₂, ◌∙◌, subst}
 use mathlib.Core.Bool.{Bool, true, false, ◌&&◌, ◌||◌}
-use Prim.Native.Nat.{ℕ, zero, suc, ◌+◌, ◌<◌}
+use Prim.Native.Nat.{ℕ, zero, suc, ◌<◌}
 use native.Mathlib.Omega.{arith}
 use native.Mathlib.Decide.{ℕ_discrete}
 use lib.IntN.{ℤ, ◌+ℤ◌}

@@ -1,6 +1,6 @@
 -- `bands::most_cells` meets its contract. The invariant: the most of the bands passed. Assumes nothing.
 use mathlib.Core.Path.{refl, sym, ap, ap₂, ◌∙◌}
-use Prim.Native.Nat.{◌-◌, max}
+use Prim.Native.Nat.{max}
 use native.Mathlib.Numerals.{add-one}
 use native.Mathlib.Omega.{arith}
 use Rattle.stack.specs.Laid.{laid}

@@ -1,6 +1,6 @@
 -- `bands::put_strips` meets its contract, by the invariant `BandsSo`. Assumes nothing.
 use mathlib.Core.Path.{refl}
-use Prim.Native.Nat.{suc, ◌-◌, ◌≤◌, ◌<◌}
+use Prim.Native.Nat.{suc, ◌≤◌, ◌<◌}
 use native.Mathlib.Omega.{arith}
 use lib.ListN.{length, length-take, length-drop}
 use Rattle.stack.specs.Laid.{laid}

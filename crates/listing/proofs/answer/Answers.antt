@@ -22,16 +22,16 @@ returns-in_default c =
 pub answer_pair-requires : goal.answer_pair-requires
 answer_pair-requires c =
     let asked : AskedFor c.args.text.now c.in-Pair.lower c.in-Pair.m c.in-Pair.upper c.in-Pair.n
-    c.read-parsed.new.a c.read-parsed.new.b =    asked_pair c.args.text.now (reads c.args.text.now) refl c.read-parsed.ensures c.in-Pair.is
-        c.no_coords-a.ensures c.no_coords-b.ensures
+    c.read-parsed.new.a c.read-parsed.new.b = asked_pair c.args.text.now (reads c.args.text.now) refl c.read-parsed.ensures c.in-Pair.is
+    c.no_coords-a.ensures c.no_coords-b.ensures
     in
     (c.requires, asked.kept_a, asked.kept_b)
 
 pub returns : goal.returns
 returns c =
     let asked : AskedFor c.args.text.now c.in-Pair.lower c.in-Pair.m c.in-Pair.upper c.in-Pair.n
-    c.read-parsed.new.a c.read-parsed.new.b =    asked_pair c.args.text.now (reads c.args.text.now) refl c.read-parsed.ensures c.in-Pair.is
-        c.no_coords-a.ensures c.no_coords-b.ensures
+    c.read-parsed.new.a c.read-parsed.new.b = asked_pair c.args.text.now (reads c.args.text.now) refl c.read-parsed.ensures c.in-Pair.is
+    c.no_coords-a.ensures c.no_coords-b.ensures
     in
     let pair = asked in
     let told = c.answer_pair.ensures pair.kept_a pair.kept_b in

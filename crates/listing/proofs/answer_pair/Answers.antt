@@ -29,12 +29,12 @@ returns-in_default-judged c =
     let lower : (k : Kept c.args.m c.args.a.now) → Fitted k c.in-Fit.area = λ k. fitted k (c.judge_read-judged.ensures k.trace k.held) c.in-Fit.is
     in
     λ ka kb. record {
-  bytes = refusal c.refused-in_default-judged.result;
-  such = traces
-      (refuses_upper (lower ka).accepted (c.judge_read-judged-2.ensures kb.trace kb.held)
-      c.in_default-judged.is c.refused-in_default-judged.ensures);
-  wrote = c.tell-in_default-judged.ensures;
-}
+      bytes = refusal c.refused-in_default-judged.result;
+      such = traces
+          (refuses_upper (lower ka).accepted (c.judge_read-judged-2.ensures kb.trace kb.held)
+          c.in_default-judged.is c.refused-in_default-judged.ensures);
+      wrote = c.tell-in_default-judged.ensures;
+    }
 
 pub overflow_mul-m : goal.overflow_mul-m
 overflow_mul-m c =

@@ -46,10 +46,10 @@ pub six_of-six-requires : goal.six_of-six-requires
 six_of-six-requires c =
     let accepted : let a = c.args in AcceptedStack (laid a.stack) a.coords.now = stack_fit c.judge_stack.ensures c.in-Fit.is
     in
-    let fitted : let a = c.args in Fitted a.stack a.coords.now a.strips.now =    record {
-          stack = accepted;
-          strips = strips_right c.judge_strips.ensures c.in-Whole.is;
-        }
+    let fitted : let a = c.args in Fitted a.stack a.coords.now a.strips.now = record {
+      stack = accepted;
+      strips = strips_right c.judge_strips.ensures c.in-Whole.is;
+    }
     in
     fitted
 
@@ -59,10 +59,10 @@ put_all-requires c =
     in
     let accepted : let a = c.args in AcceptedStack (laid a.stack) a.coords.now = stack_fit c.judge_stack.ensures c.in-Fit.is
     in
-    let fitted : let a = c.args in Fitted a.stack a.coords.now a.strips.now =    record {
-          stack = accepted;
-          strips = strips_right c.judge_strips.ensures c.in-Whole.is;
-        }
+    let fitted : let a = c.args in Fitted a.stack a.coords.now a.strips.now = record {
+      stack = accepted;
+      strips = strips_right c.judge_strips.ensures c.in-Whole.is;
+    }
     in
     (drawn fitted, counted, omega (arith, c.triangle_count-count.ensures, c.if-out-count.false))
 
@@ -70,9 +70,9 @@ pub returns : goal.returns
 returns c =
     let accepted : let a = c.args in AcceptedStack (laid a.stack) a.coords.now = stack_fit c.judge_stack.ensures c.in-Fit.is
     in
-    let fitted : let a = c.args in Fitted a.stack a.coords.now a.strips.now =    record {
-          stack = accepted;
-          strips = strips_right c.judge_strips.ensures c.in-Whole.is;
-        }
+    let fitted : let a = c.args in Fitted a.stack a.coords.now a.strips.now = record {
+      stack = accepted;
+      strips = strips_right c.judge_strips.ensures c.in-Whole.is;
+    }
     in
     triangled fitted c.six_of-six.ensures c.triangle_count-count.ensures c.if-out-count.false c.put_all.ensures

@@ -21,7 +21,7 @@ pub six_of-requires : goal.six_of-requires
 six_of-requires c =
     let accepted : let a = c.args in AcceptedStack (laid a.stack) a.coords.now = stack_fit c.judge_stack.ensures c.in-Fit.is
     in
-    let fitted : let a = c.args in Fitted a.stack a.coords.now a.strips.now =    record { stack = accepted; strips = strips_right c.judge_strips.ensures c.in-Whole.is }
+    let fitted : let a = c.args in Fitted a.stack a.coords.now a.strips.now = record { stack = accepted; strips = strips_right c.judge_strips.ensures c.in-Whole.is }
     in
     fitted
 
@@ -29,6 +29,6 @@ pub returns : goal.returns
 returns c =
     let accepted : let a = c.args in AcceptedStack (laid a.stack) a.coords.now = stack_fit c.judge_stack.ensures c.in-Fit.is
     in
-    let fitted : let a = c.args in Fitted a.stack a.coords.now a.strips.now =    record { stack = accepted; strips = strips_right c.judge_strips.ensures c.in-Whole.is }
+    let fitted : let a = c.args in Fitted a.stack a.coords.now a.strips.now = record { stack = accepted; strips = strips_right c.judge_strips.ensures c.in-Whole.is }
     in
     measured fitted c.six_of.ensures

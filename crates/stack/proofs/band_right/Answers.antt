@@ -9,8 +9,8 @@ pub overflow_add-to : goal.overflow_add-to
 overflow_add-to c =
     let inside : c.args.at
     + (c.layer_at-lower.result.count + c.layer_at-upper.result.count)
-    ≤ length c.args.strips.now =    band_inside c.args.stack c.args.k c.args.at c.args.strips.now c.requires.2
-        c.layer_at-lower.ensures c.layer_at-upper.ensures c.requires.0 c.requires.3
+    ≤ length c.args.strips.now = band_inside c.args.stack c.args.k c.args.at c.args.strips.now c.requires.2
+    c.layer_at-lower.ensures c.layer_at-upper.ensures c.requires.0 c.requires.3
     in
     omega (arith, inside)
 
@@ -18,8 +18,8 @@ pub overflow_add-to-2 : goal.overflow_add-to-2
 overflow_add-to-2 c =
     let inside : c.args.at
     + (c.layer_at-lower.result.count + c.layer_at-upper.result.count)
-    ≤ length c.args.strips.now =    band_inside c.args.stack c.args.k c.args.at c.args.strips.now c.requires.2
-        c.layer_at-lower.ensures c.layer_at-upper.ensures c.requires.0 c.requires.3
+    ≤ length c.args.strips.now = band_inside c.args.stack c.args.k c.args.at c.args.strips.now c.requires.2
+    c.layer_at-lower.ensures c.layer_at-upper.ensures c.requires.0 c.requires.3
     in
     omega (arith, inside)
 
@@ -27,8 +27,8 @@ pub slice_bounds-is_strip-end : goal.slice_bounds-is_strip-end
 slice_bounds-is_strip-end c =
     let inside : c.args.at
     + (c.layer_at-lower.result.count + c.layer_at-upper.result.count)
-    ≤ length c.args.strips.now =    band_inside c.args.stack c.args.k c.args.at c.args.strips.now c.requires.2
-        c.layer_at-lower.ensures c.layer_at-upper.ensures c.requires.0 c.requires.3
+    ≤ length c.args.strips.now = band_inside c.args.stack c.args.k c.args.at c.args.strips.now c.requires.2
+    c.layer_at-lower.ensures c.layer_at-upper.ensures c.requires.0 c.requires.3
     in
     inside
 

@@ -1,7 +1,6 @@
 -- `stack::first_band_wrong` meets its contract. The invariant: every band passed is a strip, and `at` is where band k begins.
 -- Assumes nothing.
 use mathlib.Core.Path.{refl}
-use Prim.Native.Nat.{◌-◌}
 use native.Mathlib.Omega.{arith}
 use borrow.Author.Count.{below_none, below_more}
 use Rattle.whole.proofs.Telling.{told_not, found, ended}

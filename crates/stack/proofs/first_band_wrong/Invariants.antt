@@ -6,7 +6,7 @@ use Rattle.stack.specs.Laid.{laid}
 use Rattle.stack.proofs.first_band_wrong.Given as goal
 
 abbrev pub invariant-loop-k : goal.invariant-loop-k
-invariant-loop-k l =     (l.k ≤ l.layers - 1) × (l.at ≡ band_start (laid l.stack) l.k) × ((j : ℕ) → j < l.k → BandStrip (laid l.stack) l.strips j)
+invariant-loop-k l = (l.k ≤ l.layers - 1) × (l.at ≡ band_start (laid l.stack) l.k) × ((j : ℕ) → j < l.k → BandStrip (laid l.stack) l.strips j)
 
 abbrev pub decreases-loop-k : goal.decreases-loop-k
 decreases-loop-k l = l.layers - l.k

@@ -1,5 +1,4 @@
 -- `stack::first_break` meets its contract. The invariant: no entry passed breaks the rule. Assumes nothing.
-use Prim.Native.Nat.{◌-◌}
 use native.Mathlib.Omega.{arith}
 use borrow.Author.Count.{below_more}
 use Rattle.whole.proofs.Telling.{told_not, found, ended}

@@ -1,5 +1,4 @@
 -- `stack::first_plane_wrong` meets its contract. The invariant: no plane passed is at fault. Assumes nothing.
-use Prim.Native.Nat.{◌-◌}
 use native.Mathlib.Omega.{arith}
 use borrow.Author.Count.{below_more}
 use Rattle.whole.proofs.Telling.{told_not, found, ended}

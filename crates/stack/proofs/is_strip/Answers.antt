@@ -1,8 +1,6 @@
 -- `stack::is_strip` meets its contract. The invariant: the bytes read are a strip of the steps counted. A byte over 1 is in no
 -- strip, and the bytes of a strip leave no choice of the numbers of its steps. Assumes nothing.
 use mathlib.Core.Path.{refl}
-use mathlib.Core.Logic.{⊎_elim}
-use Prim.Native.Nat.{◌-◌}
 use native.Mathlib.Omega.{arith}
 use Rattle.whole.proofs.Telling.{tells_false}
 use Rattle.stack.proofs.StripLaws.{strip_none, strip_a, strip_b, strip_small, strip_tells, strip_whole}
@@ -21,8 +19,8 @@ loop-k-preserved c =
     let k = c.loop-k.k in
     let s = c.loop-k.invariant.2 in
     elim c.if-part-k-eq0.branch [
-      then-part-k-eq0 w ↦ (omega arith, omega arith, strip_a l k (omega arith) w.if-part-k-eq0.true w.a-is w.b-is s)
-    | else-part-k-eq0 w ↦ (omega arith, omega arith, strip_b l k (omega arith) (omega arith) w.a-is w.b-is s)
+      | then-part-k-eq0 w ↦ (omega arith, omega arith, strip_a l k (omega arith) w.if-part-k-eq0.true w.a-is w.b-is s)
+      | else-part-k-eq0 w ↦ (omega arith, omega arith, strip_b l k (omega arith) (omega arith) w.a-is w.b-is s)
     ]
 
 pub returns : goal.returns

@@ -26,11 +26,10 @@ returns-then-steps_up_to-strips c =
 pub first_band_wrong-wrong-requires : goal.first_band_wrong-wrong-requires
 first_band_wrong-wrong-requires c =
     let bands : LayersRight (laid c.args.stack) = layers_right c.args.stack c.if-stack.false
-    in
-    (
-  laid_twenty c.args.stack bands,
-  omega (arith, c.steps_up_to.ensures),
-)
+    in (
+      laid_twenty c.args.stack bands,
+      omega (arith, c.steps_up_to.ensures),
+    )
 
 pub overflow_add-wrong : goal.overflow_add-wrong
 overflow_add-wrong c = omega (arith, c.first_band_wrong-wrong.ensures.within, laid_long c.args.stack)

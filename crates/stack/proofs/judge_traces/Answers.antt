@@ -1,5 +1,4 @@
 -- `stack::judge_traces` meets its contract. The invariant: every trace passed is accepted. Assumes nothing.
-use Prim.Native.Nat.{◌-◌}
 use native.Mathlib.Omega.{arith}
 use borrow.Author.Count.{below_none, below_more}
 use Rattle.stack.specs.Entries.{entry, trace_of}

@@ -1,5 +1,4 @@
 -- `stack::steps_up_to` meets its contract. The invariant: the sum is where band k begins, cut off. Assumes nothing.
-use Prim.Native.Nat.{◌-◌}
 use native.Mathlib.Omega.{arith}
 use Rattle.stack.specs.Entries.{band_start}
 use Rattle.stack.specs.Laid.{laid}

@@ -22,8 +22,8 @@ overflow_add-m c =
     let counts-lower : Counts c.args.a.now c.in-Fit.m = counts c.judge-judged.ensures c.in-Fit.is
     in
     let sides : let args = c.args in
-    PairCounts args.a.now args.b.now c.in-Fit.m c.in-Fit-judged.n =    pair_counts counts-lower
-        (counts c.judge-judged-2.ensures c.in-Fit-judged.is)
+    PairCounts args.a.now args.b.now c.in-Fit.m c.in-Fit-judged.n = pair_counts counts-lower
+    (counts c.judge-judged-2.ensures c.in-Fit-judged.is)
     in
     omega (arith, few_points sides)
 
@@ -32,8 +32,8 @@ returns-then-strip-m c =
     let counts-lower : Counts c.args.a.now c.in-Fit.m = counts c.judge-judged.ensures c.in-Fit.is
     in
     let sides : let args = c.args in
-    PairCounts args.a.now args.b.now c.in-Fit.m c.in-Fit-judged.n =    pair_counts counts-lower
-        (counts c.judge-judged-2.ensures c.in-Fit-judged.is)
+    PairCounts args.a.now args.b.now c.in-Fit.m c.in-Fit-judged.n = pair_counts counts-lower
+    (counts c.judge-judged-2.ensures c.in-Fit-judged.is)
     in
     length_judged c.lost.result sides c.answer.ensures c.if-strip-m.true c.lost.ensures.0
 
@@ -42,8 +42,8 @@ returns c =
     let counts-lower : Counts c.args.a.now c.in-Fit.m = counts c.judge-judged.ensures c.in-Fit.is
     in
     let sides : let args = c.args in
-    PairCounts args.a.now args.b.now c.in-Fit.m c.in-Fit-judged.n =    pair_counts counts-lower
-        (counts c.judge-judged-2.ensures c.in-Fit-judged.is)
+    PairCounts args.a.now args.b.now c.in-Fit.m c.in-Fit-judged.n = pair_counts counts-lower
+    (counts c.judge-judged-2.ensures c.in-Fit-judged.is)
     in
     let both = sides in
     along_judged c.walk.result both c.answer-2.ensures c.if-strip-m.false (along_same both.pair c.walk.ensures)

@@ -1,7 +1,7 @@
 -- `strip::walk` meets its contract. The invariant: the walk has come to byte k, and keeps what `Along` says of the bytes before it.
 -- Assumes nothing.
 use mathlib.Core.Path.{◌≡◌, refl, sym, ap, ◌∙◌, subst}
-use Prim.Native.Nat.{ℕ, ◌-◌}
+use Prim.Native.Nat.{ℕ}
 use native.Mathlib.Omega.{arith}
 use lib.ListN.{length, get_or}
 use mir.Syntax.{w64}
@@ -24,16 +24,16 @@ gain-more-requires c = let few = c.loop-k.invariant.2 in (few.i, few.j)
 
 pub step-so_far-requires : goal.step-so_far-requires
 step-so_far-requires c =
-    let sides : Sides (fairly c.args.a.now) (fairly c.args.b.now) c.outline_of-lower.result.count c.outline_of-upper.result.count =    let o = c.outline_of-lower.ensures in
-        let u = c.outline_of-upper.ensures in
-        record {
-          lower = fairly_ranged c.args.a.now;
-          upper = fairly_ranged c.args.b.now;
-          count_a = o.counted;
-          count_b = u.counted;
-          few_a = omega (arith, o.counted, fairly_count c.args.a.now);
-          few_b = omega (arith, u.counted, fairly_count c.args.b.now);
-        }
+    let sides : Sides (fairly c.args.a.now) (fairly c.args.b.now) c.outline_of-lower.result.count c.outline_of-upper.result.count = let o = c.outline_of-lower.ensures in
+    let u = c.outline_of-upper.ensures in
+    record {
+      lower = fairly_ranged c.args.a.now;
+      upper = fairly_ranged c.args.b.now;
+      count_a = o.counted;
+      count_b = u.counted;
+      few_a = omega (arith, o.counted, fairly_count c.args.a.now);
+      few_b = omega (arith, u.counted, fairly_count c.args.b.now);
+    }
     in
     let gained : let p = c.outline_of-lower.result in
     let q = c.outline_of-upper.result in
@@ -54,16 +54,16 @@ loop-k-smaller c = omega (arith, c.loop-k-test.true)
 
 pub loop-k-preserved : goal.loop-k-preserved
 loop-k-preserved c =
-    let sides : Sides (fairly c.args.a.now) (fairly c.args.b.now) c.outline_of-lower.result.count c.outline_of-upper.result.count =    let o = c.outline_of-lower.ensures in
-        let u = c.outline_of-upper.ensures in
-        record {
-          lower = fairly_ranged c.args.a.now;
-          upper = fairly_ranged c.args.b.now;
-          count_a = o.counted;
-          count_b = u.counted;
-          few_a = omega (arith, o.counted, fairly_count c.args.a.now);
-          few_b = omega (arith, u.counted, fairly_count c.args.b.now);
-        }
+    let sides : Sides (fairly c.args.a.now) (fairly c.args.b.now) c.outline_of-lower.result.count c.outline_of-upper.result.count = let o = c.outline_of-lower.ensures in
+    let u = c.outline_of-upper.ensures in
+    record {
+      lower = fairly_ranged c.args.a.now;
+      upper = fairly_ranged c.args.b.now;
+      count_a = o.counted;
+      count_b = u.counted;
+      few_a = omega (arith, o.counted, fairly_count c.args.a.now);
+      few_b = omega (arith, u.counted, fairly_count c.args.b.now);
+    }
     in
     let gained : let p = c.outline_of-lower.result in
     let q = c.outline_of-upper.result in

@@ -33,18 +33,18 @@ not_ended s m n e (o, i, j) = true≢false (sym yes ∙ e)
 
 pub returns-then-all-m : goal.returns-then-all-m
 returns-then-all-m c =
-    let sides : Sides (fairly c.args.a.now) (fairly c.args.b.now) c.points_read-m.result c.points_read-n.result =    let a = c.args.a.now in
-        let b = c.args.b.now in
-        let m = c.points_read-m.ensures ∙ sym (fairly_count a) in
-        let n = c.points_read-n.ensures ∙ sym (fairly_count b) in
-        record {
-          lower = fairly_ranged a;
-          upper = fairly_ranged b;
-          count_a = m;
-          count_b = n;
-          few_a = omega (arith, m, fairly_count a);
-          few_b = omega (arith, n, fairly_count b);
-        }
+    let sides : Sides (fairly c.args.a.now) (fairly c.args.b.now) c.points_read-m.result c.points_read-n.result = let a = c.args.a.now in
+    let b = c.args.b.now in
+    let m = c.points_read-m.ensures ∙ sym (fairly_count a) in
+    let n = c.points_read-n.ensures ∙ sym (fairly_count b) in
+    record {
+      lower = fairly_ranged a;
+      upper = fairly_ranged b;
+      count_a = m;
+      count_b = n;
+      few_a = omega (arith, m, fairly_count a);
+      few_b = omega (arith, n, fairly_count b);
+    }
     in
     let s = c.walk-all.result in
     let f = sides in
@@ -54,17 +54,17 @@ returns-then-all-m c =
 
 pub returns : goal.returns
 returns c =
-    let sides : Sides (fairly c.args.a.now) (fairly c.args.b.now) c.points_read-m.result c.points_read-n.result =    let a = c.args.a.now in
-        let b = c.args.b.now in
-        let m = c.points_read-m.ensures ∙ sym (fairly_count a) in
-        let n = c.points_read-n.ensures ∙ sym (fairly_count b) in
-        record {
-          lower = fairly_ranged a;
-          upper = fairly_ranged b;
-          count_a = m;
-          count_b = n;
-          few_a = omega (arith, m, fairly_count a);
-          few_b = omega (arith, n, fairly_count b);
-        }
+    let sides : Sides (fairly c.args.a.now) (fairly c.args.b.now) c.points_read-m.result c.points_read-n.result = let a = c.args.a.now in
+    let b = c.args.b.now in
+    let m = c.points_read-m.ensures ∙ sym (fairly_count a) in
+    let n = c.points_read-n.ensures ∙ sym (fairly_count b) in
+    record {
+      lower = fairly_ranged a;
+      upper = fairly_ranged b;
+      count_a = m;
+      count_b = n;
+      few_a = omega (arith, m, fairly_count a);
+      few_b = omega (arith, n, fairly_count b);
+    }
     in
     none_weighed sides c.walk-all.ensures (not_ended c.walk-all.result _ _ c.if-all-m.false)

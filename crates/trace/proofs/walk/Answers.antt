@@ -2,7 +2,6 @@
 -- up to k. Assumes nothing.
 use mathlib.Core.Path.{ap, ◌∙◌}
 use mathlib.Core.Bool.{not}
-use Prim.Native.Nat.{◌-◌}
 use native.Mathlib.Omega.{arith}
 use Rattle.trace.proofs.PointLaws.{counted}
 use Rattle.trace.proofs.Along.{along_begun, along_ready, along_step, along_closed, judged_walk}

@@ -1,5 +1,4 @@
 -- `blocks::check::check` meets its contract. The invariant: `sum` is the check of the bytes passed. Assumes nothing.
-use Prim.Native.Nat.{◌-◌}
 use native.Mathlib.Omega.{arith}
 use Rattle.blocks.proofs.CheckLaws.{check_begun, check_so_small, check_more, check_done}
 use Rattle.blocks.proofs.check.check.Goals as goal

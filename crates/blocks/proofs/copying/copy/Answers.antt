@@ -1,6 +1,5 @@
 -- `blocks::copying::copy` meets its contract, by the invariant `CopySo`. Assumes nothing.
 use mathlib.Core.Path.{◌≡◌, sym, ◌∙◌}
-use Prim.Native.Nat.{◌-◌}
 use native.Mathlib.Omega.{arith}
 use lib.ListN.{length, take, drop}
 use lib.Seq.{get_or-drop}

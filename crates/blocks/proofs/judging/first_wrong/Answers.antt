@@ -1,5 +1,4 @@
 -- `blocks::judging::first_wrong` meets its contract. The invariant: no block passed is at fault. Assumes nothing.
-use Prim.Native.Nat.{◌-◌}
 use native.Mathlib.Omega.{arith}
 use borrow.Author.Count.{below_none, below_more}
 use Rattle.whole.proofs.Telling.{told_not, found, ended}

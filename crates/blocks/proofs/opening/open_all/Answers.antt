@@ -1,6 +1,6 @@
 -- `blocks::opening::open_all` meets its contract, by the invariant `OpenSo`. Assumes nothing.
 use mathlib.Core.Path.{◌∙◌, sym}
-use Prim.Native.Nat.{◌+◌, ◌*◌, ◌-◌, ◌≤◌}
+use Prim.Native.Nat.{◌+◌, ◌*◌, ◌≤◌}
 use native.Mathlib.Omega.{arith}
 use lib.ListN.{length, length-take, length-drop}
 use Rattle.blocks.proofs.OpenLaws.{open_begun, open_room, open_more, open_done}

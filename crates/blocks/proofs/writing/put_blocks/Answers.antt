@@ -1,5 +1,5 @@
 -- `blocks::writing::put_blocks` meets its contract, by the invariant `SealSo`. Assumes nothing.
-use Prim.Native.Nat.{◌+◌, ◌*◌, ◌-◌, ◌≤◌}
+use Prim.Native.Nat.{◌+◌, ◌*◌, ◌≤◌}
 use native.Mathlib.Omega.{arith}
 use lib.ListN.{length, length-take, length-drop}
 use Rattle.blocks.proofs.SealLaws.{seal_begun, seal_room, seal_more, seal_done}

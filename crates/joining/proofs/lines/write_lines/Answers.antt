@@ -87,7 +87,7 @@ shape_of-lines-then-not-add_line c =
     let same-long : (part : List ℕ)
     → length part ≡ length (take (length c.loop-count.lines - c.loop-count.last) (drop c.loop-count.last c.loop-count.lines))
     → length (put_mid c.loop-count.last (length c.loop-count.lines - c.loop-count.last) c.loop-count.lines part) ≡ length c.args.lines.now = λ part e. same_len_mid c.loop-count.last (length c.loop-count.lines - c.loop-count.last) c.loop-count.lines part e
-        ∙ so.kept ∙ c.trace_back.auto.strip
+    ∙ so.kept ∙ c.trace_back.auto.strip
     in
     same-long c.add_line.new.part c.add_line.auto.part
 

@@ -1,7 +1,7 @@
 -- `joining::marks::clear` meets its contract: a cell is a byte. Assumes nothing.
 use mathlib.Core.Path.{◌≡◌, ap, ◌∙◌}
 use mathlib.Core.List.{List, ◌++◌}
-use Prim.Native.Nat.{ℕ, ◌-◌}
+use Prim.Native.Nat.{ℕ}
 use native.Mathlib.Omega.{arith}
 use borrow.Author.Fill.{fill_none, fill_more}
 use lib.ListN.{length, set, drop, replicate}
@@ -15,9 +15,9 @@ loop-k-init c = (omega arith, fill_none c.args.work.now 0)
 pub bounds-work-k : goal.bounds-work-k
 unfolding room
 bounds-work-k c =
-    let zeros-long : length c.loop-k.work ≡ length c.args.work.now =    let work = c.args.work.now in
-        let k = c.loop-k.k in
-        ap length c.loop-k.invariant.1 ∙ zeroed_length k work (omega (arith, c.requires))
+    let zeros-long : length c.loop-k.work ≡ length c.args.work.now = let work = c.args.work.now in
+    let k = c.loop-k.k in
+    ap length c.loop-k.invariant.1 ∙ zeroed_length k work (omega (arith, c.requires))
     in
     omega (arith, zeros-long, c.requires)
 

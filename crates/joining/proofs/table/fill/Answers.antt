@@ -1,6 +1,5 @@
 -- `joining::table::fill` meets its contract, by the invariant `TableSo`. Assumes nothing.
 use mathlib.Core.Path.{refl, ◌∙◌}
-use Prim.Native.Nat.{◌-◌}
 use native.Mathlib.Omega.{arith}
 use lib.IntN.{pos}
 use lib.ListN.{get_or}

@@ -1,6 +1,6 @@
 -- `joining::table::first_row` meets its contract, by the invariant `FirstSo`. Assumes nothing.
 use mathlib.Core.List.{[]}
-use Prim.Native.Nat.{◌+◌, ◌*◌, ◌-◌}
+use Prim.Native.Nat.{◌+◌, ◌*◌}
 use native.Mathlib.Omega.{arith}
 use Rattle.strip.specs.Arrays.{arrays, worths_of}
 use Rattle.joining.proofs.CellLaws.{room_fits}

@@ -1,6 +1,6 @@
 -- `joining::table::next_row` meets its contract, by the invariant `RowSo`. Assumes nothing.
 use mathlib.Core.Path.{refl, ap, ◌∙◌}
-use Prim.Native.Nat.{◌+◌, ◌*◌, ◌-◌}
+use Prim.Native.Nat.{◌+◌, ◌*◌}
 use native.Mathlib.Omega.{arith}
 use lib.IntN.{ℤ, ◌+ℤ◌}
 use mir.Syntax.{w64}

@@ -1,6 +1,5 @@
 -- `joining::walking::find_turn` meets its contract, by the invariant `TurnSo`. Assumes nothing.
 use mathlib.Core.Path.{refl}
-use Prim.Native.Nat.{◌-◌}
 use Rattle.joining.proofs.TurnLaws.{turn_begun, turn_step, turn_ready, turn_more, turn_found, turn_none}
 use Rattle.joining.proofs.walking.find_turn.Goals as goal
 

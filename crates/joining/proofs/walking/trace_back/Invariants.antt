@@ -1,4 +1,3 @@
-use Prim.Native.Nat.{◌-◌}
 use Rattle.joining.proofs.BackLaws.{BackSo}
 use Rattle.joining.proofs.walking.trace_back.Given as goal
 

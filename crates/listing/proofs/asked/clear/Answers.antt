@@ -1,6 +1,5 @@
 -- `listing::asked::clear` meets its contract. The invariant: k zeros stand at the front. Assumes nothing.
 use mathlib.Core.Path.{sym}
-use Prim.Native.Nat.{◌-◌}
 use native.Mathlib.Omega.{arith}
 use borrow.Author.Rules.{rules}
 use lib.ListN.{length-set}

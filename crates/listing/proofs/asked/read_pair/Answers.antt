@@ -16,14 +16,14 @@ returns-in_default c =
 pub returns-in_default-found : goal.returns-in_default-found
 returns-in_default-found c =
     let lower : let args = c.args in
-    Lower args.text.now c.in-Layer.lower c.in-Layer.m c.in-Layer.next args.a.now c.read_layer-found.new.room =    lower_read c.if-text-gt60000.false c.read_layer-found.ensures c.in-Layer.is
+    Lower args.text.now c.in-Layer.lower c.in-Layer.m c.in-Layer.next args.a.now c.read_layer-found.new.room = lower_read c.if-text-gt60000.false c.read_layer-found.ensures c.in-Layer.is
     in
     PairRead.other (upper_missing lower c.read_layer-found-2.ensures c.in_default-found.is)
 
 pub returns-in_default-word : goal.returns-in_default-word
 returns-in_default-word c =
     let lower : let args = c.args in
-    Lower args.text.now c.in-Layer.lower c.in-Layer.m c.in-Layer.next args.a.now c.read_layer-found.new.room =    lower_read c.if-text-gt60000.false c.read_layer-found.ensures c.in-Layer.is
+    Lower args.text.now c.in-Layer.lower c.in-Layer.m c.in-Layer.next args.a.now c.read_layer-found.new.room = lower_read c.if-text-gt60000.false c.read_layer-found.ensures c.in-Layer.is
     in
     PairRead.other
     (more_behind lower c.read_layer-found-2.ensures c.in-Layer-found.is c.next_number-word.ensures
@@ -32,7 +32,7 @@ returns-in_default-word c =
 pub returns : goal.returns
 returns c =
     let lower : let args = c.args in
-    Lower args.text.now c.in-Layer.lower c.in-Layer.m c.in-Layer.next args.a.now c.read_layer-found.new.room =    lower_read c.if-text-gt60000.false c.read_layer-found.ensures c.in-Layer.is
+    Lower args.text.now c.in-Layer.lower c.in-Layer.m c.in-Layer.next args.a.now c.read_layer-found.new.room = lower_read c.if-text-gt60000.false c.read_layer-found.ensures c.in-Layer.is
     in
     let whole = pair_read lower c.read_layer-found-2.ensures c.in-Layer-found.is
     c.next_number-word.ensures c.in-End.is in

@@ -61,9 +61,9 @@ put_lines-requires c =
     in
     let height-is : to_z w32 (of_z w32 c.args.h) ≡ c.args.h = to_z-of_z w32 c.args.h c.ranges.h
     in
-    let six : Holds 4000000000000000000 4000000000000000000 (to_z w64 (of_z w64 c.six_times-six.result)) (band_six c.args.h c.args.a.now c.args.b.now run.first) =    let r = run in
-        let is = run_six c.requires.0 r height-is c.six_times-six.ensures in
-        held w64 (from is (band_six_within c.requires.0 r.is_first.best.is c.requires.1)) tt
+    let six : Holds 4000000000000000000 4000000000000000000 (to_z w64 (of_z w64 c.six_times-six.result)) (band_six c.args.h c.args.a.now c.args.b.now run.first) = let r = run in
+    let is = run_six c.requires.0 r height-is c.six_times-six.ensures in
+    held w64 (from is (band_six_within c.requires.0 r.is_first.best.is c.requires.1)) tt
     in
     let pre = c.requires in (
       run_inside pre.0 run,
@@ -82,9 +82,9 @@ returns c =
     in
     let height-is : to_z w32 (of_z w32 c.args.h) ≡ c.args.h = to_z-of_z w32 c.args.h c.ranges.h
     in
-    let six : Holds 4000000000000000000 4000000000000000000 (to_z w64 (of_z w64 c.six_times-six.result)) (band_six c.args.h c.args.a.now c.args.b.now run.first) =    let r = run in
-        let is = run_six c.requires.0 r height-is c.six_times-six.ensures in
-        held w64 (from is (band_six_within c.requires.0 r.is_first.best.is c.requires.1)) tt
+    let six : Holds 4000000000000000000 4000000000000000000 (to_z w64 (of_z w64 c.six_times-six.result)) (band_six c.args.h c.args.a.now c.args.b.now run.first) = let r = run in
+    let is = run_six c.requires.0 r height-is c.six_times-six.ensures in
+    held w64 (from is (band_six_within c.requires.0 r.is_first.best.is c.requires.1)) tt
     in
     record {
       bytes = _;

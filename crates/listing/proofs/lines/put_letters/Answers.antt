@@ -1,7 +1,6 @@
 -- `listing::lines::put_letters` meets its contract, by the invariant `CopySo` over the letters of all steps. Assumes nothing.
 use mathlib.Core.Path.{◌≡◌, ◌∙◌}
 use mathlib.Core.List.{map}
-use Prim.Native.Nat.{◌-◌}
 use native.Mathlib.Omega.{arith}
 use lib.ListN.{length}
 use Rattle.listing.specs.Lines.{letter}

@@ -1,7 +1,7 @@
 -- `listing::lines::put_strips` meets its contract, by the invariant `LinesPut`: the lines of the first k strips. Assumes nothing.
 use mathlib.Core.Path.{sym, subst}
 use mathlib.Core.List.{List}
-use Prim.Native.Nat.{ℕ, ◌-◌}
+use Prim.Native.Nat.{ℕ}
 use native.Mathlib.Omega.{arith}
 use Rattle.listing.proofs.StripLines.{lines_begun, line_room, line_more, lines_done, part_inside, part_cut}
 use Rattle.listing.proofs.LineLaws.{wrote_length}

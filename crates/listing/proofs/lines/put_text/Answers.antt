@@ -1,6 +1,5 @@
 -- `listing::lines::put_text` meets its contract, by the invariant `CopySo`. Assumes nothing.
 use mathlib.Core.Path.{refl}
-use Prim.Native.Nat.{◌-◌}
 use Rattle.listing.proofs.LineLaws.{copy_begun, copy_more, copy_done}
 use Rattle.listing.proofs.lines.put_text.Goals as goal
 

@@ -15,8 +15,8 @@ use Rattle.listing.proofs.lines.put_value.Goals as goal
 pub put_whole-next-requires : goal.put_whole-next-requires
 unfolding value_line
 put_whole-next-requires c =
-    let line : value_line c.args.value c.args.volume ≡ fields (decimal (to_z w64 (of_z w64 c.args.value))) (decimal (to_z w64 (of_z w64 c.args.volume))) =    sym (ap₂ (λ (x y : ℤ). fields (decimal x) (decimal y)) (to_z-of_z w64 c.args.value c.ranges.value)
-        (to_z-of_z w64 c.args.volume c.ranges.volume))
+    let line : value_line c.args.value c.args.volume ≡ fields (decimal (to_z w64 (of_z w64 c.args.value))) (decimal (to_z w64 (of_z w64 c.args.volume))) = sym (ap₂ (λ (x y : ℤ). fields (decimal x) (decimal y)) (to_z-of_z w64 c.args.value c.ranges.value)
+    (to_z-of_z w64 c.args.volume c.ranges.volume))
     in
     let room : Room c.args.out.now c.args.at (fields (decimal (to_z w64 (of_z w64 c.args.value))) (decimal (to_z w64 (of_z w64 c.args.volume)))) = subst (Room c.args.out.now c.args.at) line c.requires
     in
@@ -25,8 +25,8 @@ put_whole-next-requires c =
 pub put-next-requires : goal.put-next-requires
 unfolding value_line
 put-next-requires c =
-    let line : value_line c.args.value c.args.volume ≡ fields (decimal (to_z w64 (of_z w64 c.args.value))) (decimal (to_z w64 (of_z w64 c.args.volume))) =    sym (ap₂ (λ (x y : ℤ). fields (decimal x) (decimal y)) (to_z-of_z w64 c.args.value c.ranges.value)
-        (to_z-of_z w64 c.args.volume c.ranges.volume))
+    let line : value_line c.args.value c.args.volume ≡ fields (decimal (to_z w64 (of_z w64 c.args.value))) (decimal (to_z w64 (of_z w64 c.args.volume))) = sym (ap₂ (λ (x y : ℤ). fields (decimal x) (decimal y)) (to_z-of_z w64 c.args.value c.ranges.value)
+    (to_z-of_z w64 c.args.volume c.ranges.volume))
     in
     let room : Room c.args.out.now c.args.at (fields (decimal (to_z w64 (of_z w64 c.args.value))) (decimal (to_z w64 (of_z w64 c.args.volume)))) = subst (Room c.args.out.now c.args.at) line c.requires
     in
@@ -35,8 +35,8 @@ put-next-requires c =
 pub put_whole-next-requires-2 : goal.put_whole-next-requires-2
 unfolding value_line
 put_whole-next-requires-2 c =
-    let line : value_line c.args.value c.args.volume ≡ fields (decimal (to_z w64 (of_z w64 c.args.value))) (decimal (to_z w64 (of_z w64 c.args.volume))) =    sym (ap₂ (λ (x y : ℤ). fields (decimal x) (decimal y)) (to_z-of_z w64 c.args.value c.ranges.value)
-        (to_z-of_z w64 c.args.volume c.ranges.volume))
+    let line : value_line c.args.value c.args.volume ≡ fields (decimal (to_z w64 (of_z w64 c.args.value))) (decimal (to_z w64 (of_z w64 c.args.volume))) = sym (ap₂ (λ (x y : ℤ). fields (decimal x) (decimal y)) (to_z-of_z w64 c.args.value c.ranges.value)
+    (to_z-of_z w64 c.args.volume c.ranges.volume))
     in
     let room : Room c.args.out.now c.args.at (fields (decimal (to_z w64 (of_z w64 c.args.value))) (decimal (to_z w64 (of_z w64 c.args.volume)))) = subst (Room c.args.out.now c.args.at) line c.requires
     in
@@ -45,8 +45,8 @@ put_whole-next-requires-2 c =
 pub put-requires : goal.put-requires
 unfolding value_line
 put-requires c =
-    let line : value_line c.args.value c.args.volume ≡ fields (decimal (to_z w64 (of_z w64 c.args.value))) (decimal (to_z w64 (of_z w64 c.args.volume))) =    sym (ap₂ (λ (x y : ℤ). fields (decimal x) (decimal y)) (to_z-of_z w64 c.args.value c.ranges.value)
-        (to_z-of_z w64 c.args.volume c.ranges.volume))
+    let line : value_line c.args.value c.args.volume ≡ fields (decimal (to_z w64 (of_z w64 c.args.value))) (decimal (to_z w64 (of_z w64 c.args.volume))) = sym (ap₂ (λ (x y : ℤ). fields (decimal x) (decimal y)) (to_z-of_z w64 c.args.value c.ranges.value)
+    (to_z-of_z w64 c.args.volume c.ranges.volume))
     in
     let room : Room c.args.out.now c.args.at (fields (decimal (to_z w64 (of_z w64 c.args.value))) (decimal (to_z w64 (of_z w64 c.args.volume)))) = subst (Room c.args.out.now c.args.at) line c.requires
     in
@@ -55,8 +55,8 @@ put-requires c =
 pub returns : goal.returns
 unfolding value_line
 returns c =
-    let line : value_line c.args.value c.args.volume ≡ fields (decimal (to_z w64 (of_z w64 c.args.value))) (decimal (to_z w64 (of_z w64 c.args.volume))) =    sym (ap₂ (λ (x y : ℤ). fields (decimal x) (decimal y)) (to_z-of_z w64 c.args.value c.ranges.value)
-        (to_z-of_z w64 c.args.volume c.ranges.volume))
+    let line : value_line c.args.value c.args.volume ≡ fields (decimal (to_z w64 (of_z w64 c.args.value))) (decimal (to_z w64 (of_z w64 c.args.volume))) = sym (ap₂ (λ (x y : ℤ). fields (decimal x) (decimal y)) (to_z-of_z w64 c.args.value c.ranges.value)
+    (to_z-of_z w64 c.args.volume c.ranges.volume))
     in
     let room : Room c.args.out.now c.args.at (fields (decimal (to_z w64 (of_z w64 c.args.value))) (decimal (to_z w64 (of_z w64 c.args.volume)))) = subst (Room c.args.out.now c.args.at) line c.requires
     in

@@ -42,8 +42,8 @@ put-next-requires c =
     let rest : Holds 0 (2 ^ 63 - 1) (to_z w64 (of_z w64 (negsuc 0 -ℤ to_z w64 (of_z w64 c.args.z)))) (pos under.under) = held w64 (rest_holds under) tt
     in
     let room : let args = c.args in
-    Room args.out.now args.at (45 ∷ digits_of (nat_abs (to_z w64 (of_z w64 (negsuc 0 -ℤ to_z w64 (of_z w64 args.z)))) + 1)) =    let args = c.args in
-        subst (Room args.out.now args.at) (decimal_below under rest.is) c.requires
+    Room args.out.now args.at (45 ∷ digits_of (nat_abs (to_z w64 (of_z w64 (negsuc 0 -ℤ to_z w64 (of_z w64 args.z)))) + 1)) = let args = c.args in
+    subst (Room args.out.now args.at) (decimal_below under rest.is) c.requires
     in
     room_first (45 ∷ []) _ room
 
@@ -84,8 +84,8 @@ put_digits-requires-2 c =
     let rest : Holds 0 (2 ^ 63 - 1) (to_z w64 (of_z w64 (negsuc 0 -ℤ to_z w64 (of_z w64 c.args.z)))) (pos under.under) = held w64 (rest_holds under) tt
     in
     let room : let args = c.args in
-    Room args.out.now args.at (45 ∷ digits_of (nat_abs (to_z w64 (of_z w64 (negsuc 0 -ℤ to_z w64 (of_z w64 args.z)))) + 1)) =    let args = c.args in
-        subst (Room args.out.now args.at) (decimal_below under rest.is) c.requires
+    Room args.out.now args.at (45 ∷ digits_of (nat_abs (to_z w64 (of_z w64 (negsuc 0 -ℤ to_z w64 (of_z w64 args.z)))) + 1)) = let args = c.args in
+    subst (Room args.out.now args.at) (decimal_below under rest.is) c.requires
     in
     room_rest _ c.put-next.ensures room
 

@@ -1,7 +1,6 @@
 -- `listing::numeral::spell` meets its contract, by the invariant `Spelling`. Assumes nothing.
 use mathlib.Core.Path.{◌≡◌, refl, sym, ◌∙◌}
 use mathlib.Core.Bool.{true}
-use Prim.Native.Nat.{◌-◌}
 use native.Mathlib.Omega.{arith}
 use Rattle.listing.specs.Scan.{word_at}
 use Rattle.listing.proofs.ScanLaws.{word_here, word_stops, spelling_begun, spelling_more}

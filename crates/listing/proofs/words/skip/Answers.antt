@@ -1,7 +1,6 @@
 -- `listing::words::skip` meets its contract. The invariant: the same words stand from k on as from the start. Assumes nothing.
 use mathlib.Core.Path.{◌≡◌, sym, ◌∙◌}
 use mathlib.Core.Bool.{true}
-use Prim.Native.Nat.{◌-◌}
 use native.Mathlib.Omega.{arith}
 use Rattle.listing.specs.Scan.{space_at}
 use Rattle.listing.proofs.ScanLaws.{space_here, skip_on}

@@ -11,7 +11,7 @@ pub overflow_add-result : goal.overflow_add-result
 overflow_add-result c =
     let ends : c.args.at
     + (c.layer_at-lower.result.count + c.layer_at-upper.result.count)
-    ≡ band_start (laid c.args.stack) (suc c.args.k) =    part_end c.args.stack c.args.k c.requires.2 c.layer_at-lower.ensures c.layer_at-upper.ensures
+    ≡ band_start (laid c.args.stack) (suc c.args.k) = part_end c.args.stack c.args.k c.requires.2 c.layer_at-lower.ensures c.layer_at-upper.ensures
     in
     omega (arith, ends)
 
@@ -19,7 +19,7 @@ pub overflow_add-result-2 : goal.overflow_add-result-2
 overflow_add-result-2 c =
     let ends : c.args.at
     + (c.layer_at-lower.result.count + c.layer_at-upper.result.count)
-    ≡ band_start (laid c.args.stack) (suc c.args.k) =    part_end c.args.stack c.args.k c.requires.2 c.layer_at-lower.ensures c.layer_at-upper.ensures
+    ≡ band_start (laid c.args.stack) (suc c.args.k) = part_end c.args.stack c.args.k c.requires.2 c.layer_at-lower.ensures c.layer_at-upper.ensures
     in
     omega (arith, ends)
 
@@ -27,6 +27,6 @@ pub returns : goal.returns
 returns c =
     let ends : c.args.at
     + (c.layer_at-lower.result.count + c.layer_at-upper.result.count)
-    ≡ band_start (laid c.args.stack) (suc c.args.k) =    part_end c.args.stack c.args.k c.requires.2 c.layer_at-lower.ensures c.layer_at-upper.ensures
+    ≡ band_start (laid c.args.stack) (suc c.args.k) = part_end c.args.stack c.args.k c.requires.2 c.layer_at-lower.ensures c.layer_at-upper.ensures
     in
     ends

@@ -10,15 +10,15 @@ use Rattle.mesh.proofs.six.band_six.Goals as goal
 
 pub overflow_add-to : goal.overflow_add-to
 overflow_add-to c =
-    let inside : let a = c.args in a.at + (c.layer_at-lower.result.count + c.layer_at-upper.result.count) ≤ length a.strips.now =    part_inside c.args.stack c.args.k c.requires.2 c.layer_at-lower.ensures c.layer_at-upper.ensures c.args.strips.now
-        c.requires.1 c.requires.0.strips.long
+    let inside : let a = c.args in a.at + (c.layer_at-lower.result.count + c.layer_at-upper.result.count) ≤ length a.strips.now = part_inside c.args.stack c.args.k c.requires.2 c.layer_at-lower.ensures c.layer_at-upper.ensures c.args.strips.now
+    c.requires.1 c.requires.0.strips.long
     in
     omega (arith, inside)
 
 pub overflow_add-to-2 : goal.overflow_add-to-2
 overflow_add-to-2 c =
-    let inside : let a = c.args in a.at + (c.layer_at-lower.result.count + c.layer_at-upper.result.count) ≤ length a.strips.now =    part_inside c.args.stack c.args.k c.requires.2 c.layer_at-lower.ensures c.layer_at-upper.ensures c.args.strips.now
-        c.requires.1 c.requires.0.strips.long
+    let inside : let a = c.args in a.at + (c.layer_at-lower.result.count + c.layer_at-upper.result.count) ≤ length a.strips.now = part_inside c.args.stack c.args.k c.requires.2 c.layer_at-lower.ensures c.layer_at-upper.ensures c.args.strips.now
+    c.requires.1 c.requires.0.strips.long
     in
     omega (arith, inside)
 
@@ -28,16 +28,15 @@ overflow_sub-upper c =
 
 pub slice_bounds-by_rule-end : goal.slice_bounds-by_rule-end
 slice_bounds-by_rule-end c =
-    let inside : let a = c.args in a.at + (c.layer_at-lower.result.count + c.layer_at-upper.result.count) ≤ length a.strips.now =    part_inside c.args.stack c.args.k c.requires.2 c.layer_at-lower.ensures c.layer_at-upper.ensures c.args.strips.now
-        c.requires.1 c.requires.0.strips.long
+    let inside : let a = c.args in a.at + (c.layer_at-lower.result.count + c.layer_at-upper.result.count) ≤ length a.strips.now = part_inside c.args.stack c.args.k c.requires.2 c.layer_at-lower.ensures c.layer_at-upper.ensures c.args.strips.now
+    c.requires.1 c.requires.0.strips.long
     in
     inside
 
 pub by_rule-requires : goal.by_rule-requires
 by_rule-requires c =
     let low = c.layer_at-lower.ensures in
-    let high = c.layer_at-upper.ensures in
-    (
+    let high = c.layer_at-upper.ensures in (
       band_joined c.requires.0 c.requires.1 low high c.trace_of.ensures c.trace_of-2.ensures
           (part_is c.args.stack c.args.k c.requires.2 low high c.args.strips.now),
       rise_within c.requires.0 c.requires.1 low high,

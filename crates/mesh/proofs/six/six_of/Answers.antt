@@ -1,6 +1,5 @@
 -- `mesh::six::six_of` meets its contract, by the invariant `SixSo`. Assumes nothing.
 use mathlib.Core.Path.{refl}
-use Prim.Native.Nat.{◌-◌}
 use native.Mathlib.Omega.{arith}
 use mir.Syntax.{w64}
 use Rattle.whole.proofs.Machine.{held, fits_holds}

@@ -1,5 +1,5 @@
 -- `mesh::writers::put_band` meets its contract, by the invariant `BandSo`. Assumes nothing.
-use Prim.Native.Nat.{◌+◌, ◌*◌, ◌-◌, ◌≤◌}
+use Prim.Native.Nat.{◌+◌, ◌*◌, ◌≤◌}
 use native.Mathlib.Omega.{arith}
 use lib.ListN.{length}
 use Rattle.mesh.proofs.WriteLaws.{band_begun, band_room, band_ready, band_more, band_done}

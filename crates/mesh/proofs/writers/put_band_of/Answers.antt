@@ -8,22 +8,22 @@ use Rattle.mesh.proofs.writers.put_band_of.Goals as goal
 
 pub overflow_add-to : goal.overflow_add-to
 overflow_add-to c =
-    let inside : let a = c.args in a.at + (c.layer_at-lower.result.count + c.layer_at-upper.result.count) ≤ length a.strips.now =    part_inside c.args.stack c.args.k c.requires.2 c.layer_at-lower.ensures c.layer_at-upper.ensures c.args.strips.now
-        c.requires.1 c.requires.0.strips.long
+    let inside : let a = c.args in a.at + (c.layer_at-lower.result.count + c.layer_at-upper.result.count) ≤ length a.strips.now = part_inside c.args.stack c.args.k c.requires.2 c.layer_at-lower.ensures c.layer_at-upper.ensures c.args.strips.now
+    c.requires.1 c.requires.0.strips.long
     in
     omega (arith, inside)
 
 pub overflow_add-to-2 : goal.overflow_add-to-2
 overflow_add-to-2 c =
-    let inside : let a = c.args in a.at + (c.layer_at-lower.result.count + c.layer_at-upper.result.count) ≤ length a.strips.now =    part_inside c.args.stack c.args.k c.requires.2 c.layer_at-lower.ensures c.layer_at-upper.ensures c.args.strips.now
-        c.requires.1 c.requires.0.strips.long
+    let inside : let a = c.args in a.at + (c.layer_at-lower.result.count + c.layer_at-upper.result.count) ≤ length a.strips.now = part_inside c.args.stack c.args.k c.requires.2 c.layer_at-lower.ensures c.layer_at-upper.ensures c.args.strips.now
+    c.requires.1 c.requires.0.strips.long
     in
     omega (arith, inside)
 
 pub slice_bounds-put_band-end : goal.slice_bounds-put_band-end
 slice_bounds-put_band-end c =
-    let inside : let a = c.args in a.at + (c.layer_at-lower.result.count + c.layer_at-upper.result.count) ≤ length a.strips.now =    part_inside c.args.stack c.args.k c.requires.2 c.layer_at-lower.ensures c.layer_at-upper.ensures c.args.strips.now
-        c.requires.1 c.requires.0.strips.long
+    let inside : let a = c.args in a.at + (c.layer_at-lower.result.count + c.layer_at-upper.result.count) ≤ length a.strips.now = part_inside c.args.stack c.args.k c.requires.2 c.layer_at-lower.ensures c.layer_at-upper.ensures c.args.strips.now
+    c.requires.1 c.requires.0.strips.long
     in
     inside
 
@@ -35,8 +35,7 @@ put_band-requires c =
 pub returns : goal.returns
 returns c =
     let low = c.layer_at-lower.ensures in
-    let high = c.layer_at-upper.ensures in
-    (
+    let high = c.layer_at-upper.ensures in (
       part_end c.args.stack c.args.k c.requires.2 low high,
       band_filled c.requires.0 c.args.k c.requires.1 c.requires.2 low high c.put_band.ensures,
     )

@@ -1,6 +1,6 @@
 -- `mesh::writers::put_bands` meets its contract, by the invariant `BandsSo`. Assumes nothing.
 use mathlib.Core.Path.{refl}
-use Prim.Native.Nat.{◌*◌, ◌-◌, ◌≤◌}
+use Prim.Native.Nat.{◌*◌, ◌≤◌}
 use native.Mathlib.Omega.{arith}
 use lib.ListN.{length, length-take, length-drop}
 use Rattle.mesh.proofs.ClosedLaws.{bands_begun, bands_behind, bands_room, bands_more, bands_done}
@@ -16,25 +16,25 @@ overflow_add-k c = omega (arith, c.loop-k.invariant.0.here, c.requires.0.twenty)
 
 pub overflow_mul-start : goal.overflow_mul-start
 overflow_mul-start c =
-    let room : 3 * c.loop-k.at ≤ length c.loop-k.out =    bands_behind c.requires.0 c.loop-k.invariant.0 c.requires.1 (omega arith)
+    let room : 3 * c.loop-k.at ≤ length c.loop-k.out = bands_behind c.requires.0 c.loop-k.invariant.0 c.requires.1 (omega arith)
     in
     omega (arith, room, c.well_formed)
 
 pub offset_bounds-out-start : goal.offset_bounds-out-start
 offset_bounds-out-start c =
-    let room : 3 * c.loop-k.at ≤ length c.loop-k.out =    bands_behind c.requires.0 c.loop-k.invariant.0 c.requires.1 (omega arith)
+    let room : 3 * c.loop-k.at ≤ length c.loop-k.out = bands_behind c.requires.0 c.loop-k.invariant.0 c.requires.1 (omega arith)
     in
     omega (arith, room, c.well_formed)
 
 pub slice_bounds-put_band_of-count : goal.slice_bounds-put_band_of-count
 slice_bounds-put_band_of-count c =
-    let room : 3 * c.loop-k.at ≤ length c.loop-k.out =    bands_behind c.requires.0 c.loop-k.invariant.0 c.requires.1 (omega arith)
+    let room : 3 * c.loop-k.at ≤ length c.loop-k.out = bands_behind c.requires.0 c.loop-k.invariant.0 c.requires.1 (omega arith)
     in
     omega (arith, room)
 
 pub slice_bounds-put_band_of-start : goal.slice_bounds-put_band_of-start
 slice_bounds-put_band_of-start c =
-    let room : 3 * c.loop-k.at ≤ length c.loop-k.out =    bands_behind c.requires.0 c.loop-k.invariant.0 c.requires.1 (omega arith)
+    let room : 3 * c.loop-k.at ≤ length c.loop-k.out = bands_behind c.requires.0 c.loop-k.invariant.0 c.requires.1 (omega arith)
     in
     omega (arith, room)
 

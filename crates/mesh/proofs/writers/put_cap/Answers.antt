@@ -1,6 +1,6 @@
 -- `mesh::writers::put_cap` meets its contract, by the invariant `CapSo`. Assumes nothing.
 use mathlib.Core.Path.{refl}
-use Prim.Native.Nat.{◌+◌, ◌*◌, ◌-◌, ◌≤◌}
+use Prim.Native.Nat.{◌+◌, ◌*◌, ◌≤◌}
 use native.Mathlib.Omega.{arith}
 use lib.ListN.{length}
 use Rattle.mesh.proofs.WriteLaws.{behind_long}

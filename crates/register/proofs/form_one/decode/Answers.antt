@@ -20,15 +20,15 @@ stack_of-stack-requires c =
 
 pub extent_of-extent-requires : goal.extent_of-extent-requires
 extent_of-extent-requires c =
-    let gathered : Layered c.args.contents.now c.stack_of-stack.result =    layered c.args.contents.now c.two_at-layers.ensures.0 c.if-layers.false
-        c.stack_of-stack.ensures
+    let gathered : Layered c.args.contents.now c.stack_of-stack.result = layered c.args.contents.now c.two_at-layers.ensures.0 c.if-layers.false
+    c.stack_of-stack.ensures
     in
     gathered
 
 pub returns-then-not-content_right : goal.returns-then-not-content_right
 returns-then-not-content_right c =
-    let gathered : Layered c.args.contents.now c.stack_of-stack.result =    layered c.args.contents.now c.two_at-layers.ensures.0 c.if-layers.false
-        c.stack_of-stack.ensures
+    let gathered : Layered c.args.contents.now c.stack_of-stack.result = layered c.args.contents.now c.two_at-layers.ensures.0 c.if-layers.false
+    c.stack_of-stack.ensures
     in
     let g = gathered in
     rw c.wrong-then-not-content_right.ensures
@@ -37,18 +37,18 @@ returns-then-not-content_right c =
 
 pub put_coords-requires : goal.put_coords-requires
 put_coords-requires c =
-    let gathered : Layered c.args.contents.now c.stack_of-stack.result =    layered c.args.contents.now c.two_at-layers.ensures.0 c.if-layers.false
-        c.stack_of-stack.ensures
+    let gathered : Layered c.args.contents.now c.stack_of-stack.result = layered c.args.contents.now c.two_at-layers.ensures.0 c.if-layers.false
+    c.stack_of-stack.ensures
     in
     let ready : Ready c.args.contents.now
-    c.stack_of-stack.result c.extent_of-extent.result =    record {
-          layered = gathered;
-          reaches = c.extent_of-extent.ensures;
-          few = c.requires.0;
-          stored =
-              ended_stored (record { each = λ i. omega (arith, c.shared_slice_known-1.given i) })
-              (c.content_right.ensures.yes (c.if-not-content_right.false));
-        }
+    c.stack_of-stack.result c.extent_of-extent.result = record {
+      layered = gathered;
+      reaches = c.extent_of-extent.ensures;
+      few = c.requires.0;
+      stored =
+          ended_stored (record { each = λ i. omega (arith, c.shared_slice_known-1.given i) })
+          (c.content_right.ensures.yes (c.if-not-content_right.false));
+    }
     in
     let two = c.two_at-layers.ensures.0 in (
       few_layers c.args.contents.now two c.if-layers.false,
@@ -57,104 +57,104 @@ put_coords-requires c =
 
 pub slice_bounds-put_bytes-count : goal.slice_bounds-put_bytes-count
 slice_bounds-put_bytes-count c =
-    let gathered : Layered c.args.contents.now c.stack_of-stack.result =    layered c.args.contents.now c.two_at-layers.ensures.0 c.if-layers.false
-        c.stack_of-stack.ensures
+    let gathered : Layered c.args.contents.now c.stack_of-stack.result = layered c.args.contents.now c.two_at-layers.ensures.0 c.if-layers.false
+    c.stack_of-stack.ensures
     in
     let ready : Ready c.args.contents.now
-    c.stack_of-stack.result c.extent_of-extent.result =    record {
-          layered = gathered;
-          reaches = c.extent_of-extent.ensures;
-          few = c.requires.0;
-          stored =
-              ended_stored (record { each = λ i. omega (arith, c.shared_slice_known-1.given i) })
-              (c.content_right.ensures.yes (c.if-not-content_right.false));
-        }
+    c.stack_of-stack.result c.extent_of-extent.result = record {
+      layered = gathered;
+      reaches = c.extent_of-extent.ensures;
+      few = c.requires.0;
+      stored =
+          ended_stored (record { each = λ i. omega (arith, c.shared_slice_known-1.given i) })
+          (c.content_right.ensures.yes (c.if-not-content_right.false));
+    }
     in
     let r = ready in omega (arith, from_end r, end_inside r)
 
 pub slice_bounds-put_bytes-start : goal.slice_bounds-put_bytes-start
 slice_bounds-put_bytes-start c =
-    let gathered : Layered c.args.contents.now c.stack_of-stack.result =    layered c.args.contents.now c.two_at-layers.ensures.0 c.if-layers.false
-        c.stack_of-stack.ensures
+    let gathered : Layered c.args.contents.now c.stack_of-stack.result = layered c.args.contents.now c.two_at-layers.ensures.0 c.if-layers.false
+    c.stack_of-stack.ensures
     in
     let ready : Ready c.args.contents.now
-    c.stack_of-stack.result c.extent_of-extent.result =    record {
-          layered = gathered;
-          reaches = c.extent_of-extent.ensures;
-          few = c.requires.0;
-          stored =
-              ended_stored (record { each = λ i. omega (arith, c.shared_slice_known-1.given i) })
-              (c.content_right.ensures.yes (c.if-not-content_right.false));
-        }
+    c.stack_of-stack.result c.extent_of-extent.result = record {
+      layered = gathered;
+      reaches = c.extent_of-extent.ensures;
+      few = c.requires.0;
+      stored =
+          ended_stored (record { each = λ i. omega (arith, c.shared_slice_known-1.given i) })
+          (c.content_right.ensures.yes (c.if-not-content_right.false));
+    }
     in
     let r = ready in omega (arith, from_end r, end_inside r)
 
 pub slice_bounds-put_bytes-end : goal.slice_bounds-put_bytes-end
 slice_bounds-put_bytes-end c =
-    let gathered : Layered c.args.contents.now c.stack_of-stack.result =    layered c.args.contents.now c.two_at-layers.ensures.0 c.if-layers.false
-        c.stack_of-stack.ensures
+    let gathered : Layered c.args.contents.now c.stack_of-stack.result = layered c.args.contents.now c.two_at-layers.ensures.0 c.if-layers.false
+    c.stack_of-stack.ensures
     in
     let ready : Ready c.args.contents.now
-    c.stack_of-stack.result c.extent_of-extent.result =    record {
-          layered = gathered;
-          reaches = c.extent_of-extent.ensures;
-          few = c.requires.0;
-          stored =
-              ended_stored (record { each = λ i. omega (arith, c.shared_slice_known-1.given i) })
-              (c.content_right.ensures.yes (c.if-not-content_right.false));
-        }
+    c.stack_of-stack.result c.extent_of-extent.result = record {
+      layered = gathered;
+      reaches = c.extent_of-extent.ensures;
+      few = c.requires.0;
+      stored =
+          ended_stored (record { each = λ i. omega (arith, c.shared_slice_known-1.given i) })
+          (c.content_right.ensures.yes (c.if-not-content_right.false));
+    }
     in
     let r = ready in omega (arith, from_end r, end_inside r)
 
 pub put_bytes-requires : goal.put_bytes-requires
 put_bytes-requires c =
-    let gathered : Layered c.args.contents.now c.stack_of-stack.result =    layered c.args.contents.now c.two_at-layers.ensures.0 c.if-layers.false
-        c.stack_of-stack.ensures
+    let gathered : Layered c.args.contents.now c.stack_of-stack.result = layered c.args.contents.now c.two_at-layers.ensures.0 c.if-layers.false
+    c.stack_of-stack.ensures
     in
     let ready : Ready c.args.contents.now
-    c.stack_of-stack.result c.extent_of-extent.result =    record {
-          layered = gathered;
-          reaches = c.extent_of-extent.ensures;
-          few = c.requires.0;
-          stored =
-              ended_stored (record { each = λ i. omega (arith, c.shared_slice_known-1.given i) })
-              (c.content_right.ensures.yes (c.if-not-content_right.false));
-        }
+    c.stack_of-stack.result c.extent_of-extent.result = record {
+      layered = gathered;
+      reaches = c.extent_of-extent.ensures;
+      few = c.requires.0;
+      stored =
+          ended_stored (record { each = λ i. omega (arith, c.shared_slice_known-1.given i) })
+          (c.content_right.ensures.yes (c.if-not-content_right.false));
+    }
     in
     let r = ready in
     omega (arith, ap length (strips_here r), end_inside r, r.few)
 
 pub overflow_sub-result : goal.overflow_sub-result
 overflow_sub-result c =
-    let gathered : Layered c.args.contents.now c.stack_of-stack.result =    layered c.args.contents.now c.two_at-layers.ensures.0 c.if-layers.false
-        c.stack_of-stack.ensures
+    let gathered : Layered c.args.contents.now c.stack_of-stack.result = layered c.args.contents.now c.two_at-layers.ensures.0 c.if-layers.false
+    c.stack_of-stack.ensures
     in
     let ready : Ready c.args.contents.now
-    c.stack_of-stack.result c.extent_of-extent.result =    record {
-          layered = gathered;
-          reaches = c.extent_of-extent.ensures;
-          few = c.requires.0;
-          stored =
-              ended_stored (record { each = λ i. omega (arith, c.shared_slice_known-1.given i) })
-              (c.content_right.ensures.yes (c.if-not-content_right.false));
-        }
+    c.stack_of-stack.result c.extent_of-extent.result = record {
+      layered = gathered;
+      reaches = c.extent_of-extent.ensures;
+      few = c.requires.0;
+      stored =
+          ended_stored (record { each = λ i. omega (arith, c.shared_slice_known-1.given i) })
+          (c.content_right.ensures.yes (c.if-not-content_right.false));
+    }
     in
     omega (arith, from_end ready)
 
 pub returns : goal.returns
 returns c =
-    let gathered : Layered c.args.contents.now c.stack_of-stack.result =    layered c.args.contents.now c.two_at-layers.ensures.0 c.if-layers.false
-        c.stack_of-stack.ensures
+    let gathered : Layered c.args.contents.now c.stack_of-stack.result = layered c.args.contents.now c.two_at-layers.ensures.0 c.if-layers.false
+    c.stack_of-stack.ensures
     in
     let ready : Ready c.args.contents.now
-    c.stack_of-stack.result c.extent_of-extent.result =    record {
-          layered = gathered;
-          reaches = c.extent_of-extent.ensures;
-          few = c.requires.0;
-          stored =
-              ended_stored (record { each = λ i. omega (arith, c.shared_slice_known-1.given i) })
-              (c.content_right.ensures.yes (c.if-not-content_right.false));
-        }
+    c.stack_of-stack.result c.extent_of-extent.result = record {
+      layered = gathered;
+      reaches = c.extent_of-extent.ensures;
+      few = c.requires.0;
+      stored =
+          ended_stored (record { each = λ i. omega (arith, c.shared_slice_known-1.given i) })
+          (c.content_right.ensures.yes (c.if-not-content_right.false));
+    }
     in
     let two = c.two_at-layers.ensures.0 in
     decoded ready (coords_by c.args.contents.now two)

@@ -1,5 +1,4 @@
 -- `register::fronts::copy_numbers` meets its contract, by the invariant `CopySo`. Assumes nothing.
-use Prim.Native.Nat.{◌-◌}
 use native.Mathlib.Omega.{arith}
 use lib.IntN.{pos}
 use lib.ListN.{get_or}

@@ -1,6 +1,5 @@
 -- `register::fronts::put_bytes` meets its contract, by the invariant `CopySo`. Assumes nothing.
 use mathlib.Core.Path.{refl}
-use Prim.Native.Nat.{◌-◌}
 use native.Mathlib.Omega.{arith}
 use Rattle.whole.proofs.Filling.{copy_begun, copy_more, copy_done}
 use Rattle.register.proofs.fronts.put_bytes.Goals as goal

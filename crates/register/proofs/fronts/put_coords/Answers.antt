@@ -1,6 +1,6 @@
 -- `register::fronts::put_coords` meets its contract, by the invariant `CoordsSo`. Assumes nothing.
 use mathlib.Core.Path.{◌≡◌, ap}
-use Prim.Native.Nat.{◌+◌, ◌*◌, ◌-◌, ◌≤◌}
+use Prim.Native.Nat.{◌+◌, ◌*◌, ◌≤◌}
 use native.Mathlib.Omega.{arith}
 use lib.ListN.{length, drop, length-take, length-drop}
 use Rattle.stack.specs.declared.Layer.{Layer}
@@ -59,11 +59,10 @@ put_numbers-requires c =
     let count : c.layer_here-layer.result.count ≡ count_here (drop (place_of c.loop-k.k c.loop-k.first) c.args.contents.now) = ap (λ (e : Layer). e.count) c.layer_here-layer.ensures.0
     in
     let room : 2 * c.loop-k.first + 2 * c.layer_here-layer.result.count ≤ length c.loop-k.out = coords_room c.loop-k.invariant (omega arith) count
-    in
-    (
-  omega (arith, c.layer_here-layer.ensures.1, c.loop-k.invariant.few),
-  simp (length-take, length-drop) (omega (arith, room)),
-)
+    in (
+      omega (arith, c.layer_here-layer.ensures.1, c.loop-k.invariant.few),
+      simp (length-take, length-drop) (omega (arith, room)),
+    )
 
 pub overflow_add-first : goal.overflow_add-first
 overflow_add-first c =

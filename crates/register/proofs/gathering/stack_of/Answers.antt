@@ -1,5 +1,4 @@
 -- `register::gathering::stack_of` meets its contract, by the invariant `GatherSo`. Assumes nothing.
-use Prim.Native.Nat.{◌-◌}
 use native.Mathlib.Omega.{arith}
 use Rattle.register.proofs.GatherLaws.{gather_begun, gather_more, gather_done}
 use Rattle.register.proofs.gathering.stack_of.Goals as goal

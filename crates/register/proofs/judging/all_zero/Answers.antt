@@ -1,5 +1,4 @@
 -- `register::judging::all_zero` meets its contract. The invariant: every byte passed is 0. Assumes nothing.
-use Prim.Native.Nat.{◌-◌}
 use native.Mathlib.Omega.{arith}
 use borrow.Author.Count.{below_none, below_more}
 use Rattle.whole.proofs.Telling.{tells_false, tells_true}

@@ -21,16 +21,15 @@ pub put_layer-requires : goal.put_layer-requires
 put_layer-requires c =
     let below : c.args.k < length (laid c.args.stack) = omega (arith, c.requires.1, laid_long c.args.stack)
     in
-    let inside : stop c.layer_at-layer.result ≤ length c.args.coords.now / 2 =    subst (λ (e : Layer). stop e ≤ length c.args.coords.now / 2) (sym c.layer_at-layer.ensures)
-        (accepted_inside c.requires.0 c.args.k below)
+    let inside : stop c.layer_at-layer.result ≤ length c.args.coords.now / 2 = subst (λ (e : Layer). stop e ≤ length c.args.coords.now / 2) (sym c.layer_at-layer.ensures)
+    (accepted_inside c.requires.0 c.args.k below)
     in
-    let few : c.layer_at-layer.result.count ≤ 250 =    subst (λ (e : Layer). e.count ≤ 250) (sym c.layer_at-layer.ensures)
-        (accepted_count c.requires.0 c.args.k below).many
+    let few : c.layer_at-layer.result.count ≤ 250 = subst (λ (e : Layer). e.count ≤ 250) (sym c.layer_at-layer.ensures)
+    (accepted_count c.requires.0 c.args.k below).many
     in
-    let long : 6 + 8 * c.layer_at-layer.result.count ≡ length (layer_bytes c.args.coords.now (entry (laid c.args.stack) c.args.k)) =    sym (layer_long c.args.coords.now c.layer_at-layer.result inside)
-        ∙ ap (λ (e : Layer). length (layer_bytes c.args.coords.now e)) c.layer_at-layer.ensures
-    in
-    (
+    let long : 6 + 8 * c.layer_at-layer.result.count ≡ length (layer_bytes c.args.coords.now (entry (laid c.args.stack) c.args.k)) = sym (layer_long c.args.coords.now c.layer_at-layer.result inside)
+    ∙ ap (λ (e : Layer). length (layer_bytes c.args.coords.now e)) c.layer_at-layer.ensures
+    in (
       omega (arith, few),
       omega (
         arith,
@@ -45,8 +44,8 @@ pub overflow_mul-result : goal.overflow_mul-result
 overflow_mul-result c =
     let below : c.args.k < length (laid c.args.stack) = omega (arith, c.requires.1, laid_long c.args.stack)
     in
-    let few : c.layer_at-layer.result.count ≤ 250 =    subst (λ (e : Layer). e.count ≤ 250) (sym c.layer_at-layer.ensures)
-        (accepted_count c.requires.0 c.args.k below).many
+    let few : c.layer_at-layer.result.count ≤ 250 = subst (λ (e : Layer). e.count ≤ 250) (sym c.layer_at-layer.ensures)
+    (accepted_count c.requires.0 c.args.k below).many
     in
     omega (arith, few)
 
@@ -54,8 +53,8 @@ pub overflow_add-result : goal.overflow_add-result
 overflow_add-result c =
     let below : c.args.k < length (laid c.args.stack) = omega (arith, c.requires.1, laid_long c.args.stack)
     in
-    let few : c.layer_at-layer.result.count ≤ 250 =    subst (λ (e : Layer). e.count ≤ 250) (sym c.layer_at-layer.ensures)
-        (accepted_count c.requires.0 c.args.k below).many
+    let few : c.layer_at-layer.result.count ≤ 250 = subst (λ (e : Layer). e.count ≤ 250) (sym c.layer_at-layer.ensures)
+    (accepted_count c.requires.0 c.args.k below).many
     in
     omega (arith, few)
 
@@ -64,11 +63,11 @@ unfolding layer_bytes
 returns c =
     let below : c.args.k < length (laid c.args.stack) = omega (arith, c.requires.1, laid_long c.args.stack)
     in
-    let inside : stop c.layer_at-layer.result ≤ length c.args.coords.now / 2 =    subst (λ (e : Layer). stop e ≤ length c.args.coords.now / 2) (sym c.layer_at-layer.ensures)
-        (accepted_inside c.requires.0 c.args.k below)
+    let inside : stop c.layer_at-layer.result ≤ length c.args.coords.now / 2 = subst (λ (e : Layer). stop e ≤ length c.args.coords.now / 2) (sym c.layer_at-layer.ensures)
+    (accepted_inside c.requires.0 c.args.k below)
     in
-    let long : 6 + 8 * c.layer_at-layer.result.count ≡ length (layer_bytes c.args.coords.now (entry (laid c.args.stack) c.args.k)) =    sym (layer_long c.args.coords.now c.layer_at-layer.result inside)
-        ∙ ap (λ (e : Layer). length (layer_bytes c.args.coords.now e)) c.layer_at-layer.ensures
+    let long : 6 + 8 * c.layer_at-layer.result.count ≡ length (layer_bytes c.args.coords.now (entry (laid c.args.stack) c.args.k)) = sym (layer_long c.args.coords.now c.layer_at-layer.result inside)
+    ∙ ap (λ (e : Layer). length (layer_bytes c.args.coords.now e)) c.layer_at-layer.ensures
     in
     let layer = c.layer_at-layer in
     let old = c.args.out.now in

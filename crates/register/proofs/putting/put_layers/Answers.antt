@@ -1,5 +1,5 @@
 -- `register::putting::put_layers` meets its contract, by the invariant `LayersSo`. Assumes nothing.
-use Prim.Native.Nat.{◌+◌, ◌-◌, ◌≤◌, ◌<◌}
+use Prim.Native.Nat.{◌+◌, ◌≤◌, ◌<◌}
 use native.Mathlib.Omega.{arith}
 use lib.ListN.{length, length-take, length-drop}
 use Rattle.stack.specs.Entries.{entry}

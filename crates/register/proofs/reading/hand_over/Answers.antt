@@ -29,8 +29,8 @@ returns-in-Refused-judge_strips c =
     AcceptedStack (laid a.stack) a.numbers.now = stack_fit c.judge_stack.ensures c.in-Fit.is
     in
     let roomy : let a = c.args in
-    EnoughFor (laid a.stack) a.numbers.now a.bytes.now (lent a.room a.coords.now a.strips.now) =    let a = c.args in
-        enough a.stack a.room a.numbers.now a.coords.now a.bytes.now a.strips.now c.if-room-stack.false
+    EnoughFor (laid a.stack) a.numbers.now a.bytes.now (lent a.room a.coords.now a.strips.now) = let a = c.args in
+    enough a.stack a.room a.numbers.now a.coords.now a.bytes.now a.strips.now c.if-room-stack.false
     in
     let a = accepted in
     let judged = c.judge_strips.ensures in
@@ -40,16 +40,16 @@ returns-in-Refused-judge_strips c =
 pub copy_numbers-requires : goal.copy_numbers-requires
 copy_numbers-requires c =
     let roomy : let a = c.args in
-    EnoughFor (laid a.stack) a.numbers.now a.bytes.now (lent a.room a.coords.now a.strips.now) =    let a = c.args in
-        enough a.stack a.room a.numbers.now a.coords.now a.bytes.now a.strips.now c.if-room-stack.false
+    EnoughFor (laid a.stack) a.numbers.now a.bytes.now (lent a.room a.coords.now a.strips.now) = let a = c.args in
+    enough a.stack a.room a.numbers.now a.coords.now a.bytes.now a.strips.now c.if-room-stack.false
     in
     roomy.for_coords
 
 pub put_bytes-requires : goal.put_bytes-requires
 put_bytes-requires c =
     let roomy : let a = c.args in
-    EnoughFor (laid a.stack) a.numbers.now a.bytes.now (lent a.room a.coords.now a.strips.now) =    let a = c.args in
-        enough a.stack a.room a.numbers.now a.coords.now a.bytes.now a.strips.now c.if-room-stack.false
+    EnoughFor (laid a.stack) a.numbers.now a.bytes.now (lent a.room a.coords.now a.strips.now) = let a = c.args in
+    enough a.stack a.room a.numbers.now a.coords.now a.bytes.now a.strips.now c.if-room-stack.false
     in
     roomy.for_strips
 
@@ -59,8 +59,8 @@ returns c =
     AcceptedStack (laid a.stack) a.numbers.now = stack_fit c.judge_stack.ensures c.in-Fit.is
     in
     let roomy : let a = c.args in
-    EnoughFor (laid a.stack) a.numbers.now a.bytes.now (lent a.room a.coords.now a.strips.now) =    let a = c.args in
-        enough a.stack a.room a.numbers.now a.coords.now a.bytes.now a.strips.now c.if-room-stack.false
+    EnoughFor (laid a.stack) a.numbers.now a.bytes.now (lent a.room a.coords.now a.strips.now) = let a = c.args in
+    enough a.stack a.room a.numbers.now a.coords.now a.bytes.now a.strips.now c.if-room-stack.false
     in
     let right : let a = c.args in
     StripsRight (laid a.stack) a.bytes.now = strips_right c.judge_strips.ensures c.in-Whole.is

@@ -1,6 +1,6 @@
 -- `trace::outline::differences` meets its contract: two numbers within 100,000 differ by at most 200,000. Assumes nothing.
 use mathlib.Core.Path.{refl}
-use Prim.Native.Nat.{◌+◌, ◌-◌}
+use Prim.Native.Nat.{◌+◌}
 use lib.IntN.{pos, ◌-ℤ◌}
 use lib.ListN.{get_or}
 use mir.Syntax.{w32}

@@ -1,5 +1,5 @@
 -- `trace::outline::fair_of` meets its contract: one test. Assumes nothing.
-use mathlib.Core.Path.{◌≡◌, refl, sym, ap, ◌∙◌}
+use mathlib.Core.Path.{refl, sym, ap, ◌∙◌}
 use mathlib.Core.Bool.{Bool, cond}
 use lib.IntN.{pos}
 use mir.Syntax.{w32}
