@@ -1,5 +1,6 @@
-/* The register software for C: link libexports.a (`rt staticlib exports`). A slice is a pointer and its length. Every function takes
- * every input; pointers must be valid for their lengths, and what is lent for writing must not overlap anything else. */
+/* The register software for C: link libexports_c.a (`rt lib` in crates/exports_c writes it to out/ there; the scripts copy it to
+ * target/staticlib/libexports.a). A slice is a pointer and its length. Every function takes every input; pointers must be valid for their
+ * lengths, and what is lent for writing must not overlap anything else. */
 #ifndef REGISTER_H
 #define REGISTER_H
 

@@ -10,12 +10,12 @@ use Rattle.whole.proofs.Filling.{CopySo, copy_begun, copy_more, copy_done}
 use Rattle.stack.specs.declared.Layer.{Layer}
 use Rattle.stack.specs.declared.Stack.{Stack}
 use Rattle.stack.specs.Entries.{no_layer, entry}
-use Rattle.stack.specs.Laid.{laid, counting, stack_of}
+use Rattle.stack.specs.Laid.{laid, stack_of}
 use Rattle.stack.proofs.Laying.{counted, laid_long, laid_of}
 use Rattle.entries.specs.Scattered.{written, scattered}
 
 module _ (st : Stack) (old : List Layer) (m : ℕ) (e : m ≡ written st (length old)) where
-  front_long : length (take m (laid st)) ≡ m
+  pub front_long : length (take m (laid st)) ≡ m
   front_long = length-take-le m (laid st) (omega (arith, e, laid_long st))
 
   pub scatter_begun : CopySo (take m (laid st)) 0 old old

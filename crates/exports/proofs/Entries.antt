@@ -4,7 +4,7 @@ use mathlib.Core.Path.{◌≡◌, refl, subst}
 use mathlib.Core.Bool.{Bool, true, false}
 use mathlib.Core.Logic.{inl, inr}
 use mathlib.Core.List.{List, [], ◌∷◌}
-use Prim.Native.Nat.{ℕ, ◌≤◌, ◌<◌}
+use Prim.Native.Nat.{ℕ, ◌<◌}
 use native.Mathlib.Omega.{arith}
 use lib.Dec.{ltb}
 use lib.IntN.{ℤ}
@@ -68,37 +68,37 @@ after (g ∷ gs) = gs
 
 -- ---- the five answers
 
-over_judged : (c : List ℤ) (r : StackJudgement) → OverTwenty (λ es. StackJudged es c r)
-over_judged c r es d h more (stack.refused {r = q} x) = stack.refused (over_stopped c q es d h more x)
-over_judged c r es d h more (stack.fit a) = absurd (never_accepted h a)
+over_judged : (es d : List Layer) (c : List ℤ) (r : StackJudgement) → 20 < length es → 20 < length d → StackJudged es c r → StackJudged d c r
+over_judged es d c r h more (stack.refused {r = q} x) = stack.refused (over_stopped c q es d h more x)
+over_judged es d c r h more (stack.fit a) = absurd (never_accepted h a)
 
 pub judged_of : (c : List ℤ) (r : StackJudgement) (st : Stack) (es : List Layer) → st ≡ stack_of es → StackJudged (laid st) c r → StackJudged es c r
-judged_of c r = of_entries (λ es. StackJudged es c r) (over_judged c r)
+judged_of c r = of_entries (λ es. StackJudged es c r) (λ es d. over_judged es d c r)
 
-over_measured : (c : List ℤ) (l : List ℕ) (r : Volumed) → OverTwenty (λ es. Measured es c l r)
-over_measured c l r es d h more (mesh.Measured.refused {r = q} x) = mesh.Measured.refused (over_first es d c (after (mesh.volume_gates es c l)) (after (mesh.volume_gates d c l)) q h more x)
-over_measured c l r es d h more (mesh.six a s) = absurd (never_accepted h a)
+over_measured : (es d : List Layer) (c : List ℤ) (l : List ℕ) (r : Volumed) → 20 < length es → 20 < length d → Measured es c l r → Measured d c l r
+over_measured es d c l r h more (mesh.Measured.refused {r = q} x) = mesh.Measured.refused (over_first es d c (after (mesh.volume_gates es c l)) (after (mesh.volume_gates d c l)) q h more x)
+over_measured es d c l r h more (mesh.six a s) = absurd (never_accepted h a)
 
 pub measured_of : (c : List ℤ) (l : List ℕ) (r : Volumed) (st : Stack) (es : List Layer) → st ≡ stack_of es → Measured (laid st) c l r → Measured es c l r
-measured_of c l r = of_entries (λ es. Measured es c l r) (over_measured c l r)
+measured_of c l r = of_entries (λ es. Measured es c l r) (λ es d. over_measured es d c l r)
 
-over_triangled : (c : List ℤ) (l out new : List ℕ) (r : Meshed) → OverTwenty (λ es. Triangled es c l out new r)
-over_triangled c l out new r es d h more (mesh.Triangled.refused {r = q} x) = mesh.Triangled.refused (over_first es d c (after (mesh.list_gates es c l out)) (after (mesh.list_gates d c l out)) q h more x)
-over_triangled c l out new r es d h more (mesh.whole a b s) = absurd (never_accepted h a)
+over_triangled : (es d : List Layer) (c : List ℤ) (l out new : List ℕ) (r : Meshed) → 20 < length es → 20 < length d → Triangled es c l out new r → Triangled d c l out new r
+over_triangled es d c l out new r h more (mesh.Triangled.refused {r = q} x) = mesh.Triangled.refused (over_first es d c (after (mesh.list_gates es c l out)) (after (mesh.list_gates d c l out)) q h more x)
+over_triangled es d c l out new r h more (mesh.whole a b s) = absurd (never_accepted h a)
 
 pub triangled_of : (c : List ℤ) (l out new : List ℕ) (r : Meshed) (st : Stack) (es : List Layer) → st ≡ stack_of es → Triangled (laid st) c l out new r → Triangled es c l out new r
-triangled_of c l out new r = of_entries (λ es. Triangled es c l out new r) (over_triangled c l out new r)
+triangled_of c l out new r = of_entries (λ es. Triangled es c l out new r) (λ es d. over_triangled es d c l out new r)
 
-over_written : (c : List ℤ) (l out new : List ℕ) (r : Written) → OverTwenty (λ es. WriteAnswer es c l out new r)
-over_written c l out new r es d h more (write.refused {r = q} x) = write.refused (over_first es d c (after (write.write_gates es c l out)) (after (write.write_gates d c l out)) q h more x)
-over_written c l out new r es d h more (write.written a b s) = absurd (never_accepted h a)
+over_written : (es d : List Layer) (c : List ℤ) (l out new : List ℕ) (r : Written) → 20 < length es → 20 < length d → WriteAnswer es c l out new r → WriteAnswer d c l out new r
+over_written es d c l out new r h more (write.refused {r = q} x) = write.refused (over_first es d c (after (write.write_gates es c l out)) (after (write.write_gates d c l out)) q h more x)
+over_written es d c l out new r h more (write.written a b s) = absurd (never_accepted h a)
 
 pub written_of : (c : List ℤ) (l out new : List ℕ) (r : Written) (st : Stack) (es : List Layer) → st ≡ stack_of es → WriteAnswer (laid st) c l out new r → WriteAnswer es c l out new r
-written_of c l out new r = of_entries (λ es. WriteAnswer es c l out new r) (over_written c l out new r)
+written_of c l out new r = of_entries (λ es. WriteAnswer es c l out new r) (λ es d. over_written es d c l out new r)
 
-over_banded : (c : List ℤ) (l work l' work' : List ℕ) (r : Banded) → OverTwenty (λ es. BandsAnswer es c l work l' work' r)
-over_banded c l work l' work' r es d h more (bands.refused {r = q} x) = bands.refused (over_first es d c (after (bands.bands_gates es c l work)) (after (bands.bands_gates d c l work)) q h more x)
-over_banded c l work l' work' r es d h more (bands.best a b k s) = absurd (never_accepted h a)
+over_banded : (es d : List Layer) (c : List ℤ) (l work l' work' : List ℕ) (r : Banded) → 20 < length es → 20 < length d → BandsAnswer es c l work l' work' r → BandsAnswer d c l work l' work' r
+over_banded es d c l work l' work' r h more (bands.refused {r = q} x) = bands.refused (over_first es d c (after (bands.bands_gates es c l work)) (after (bands.bands_gates d c l work)) q h more x)
+over_banded es d c l work l' work' r h more (bands.best a b k s) = absurd (never_accepted h a)
 
 pub banded_of : (c : List ℤ) (l work l' work' : List ℕ) (r : Banded) (st : Stack) (es : List Layer) → st ≡ stack_of es → BandsAnswer (laid st) c l work l' work' r → BandsAnswer es c l work l' work' r
-banded_of c l work l' work' r = of_entries (λ es. BandsAnswer es c l work l' work' r) (over_banded c l work l' work' r)
+banded_of c l work l' work' r = of_entries (λ es. BandsAnswer es c l work l' work' r) (λ es d. over_banded es d c l work l' work' r)

@@ -4,7 +4,6 @@ use mathlib.Core.Path.{◌≡◌, sym, ap, ◌∙◌}
 use mathlib.Core.List.{List}
 use Prim.Native.Nat.{ℕ}
 use lib.IntN.{ℤ}
-use lib.ListN.{length}
 use Rattle.trace.specs.Faults.{Given}
 use Rattle.trace.proofs.Exact.{judgement_unique}
 use Rattle.strip.specs.Judging.{StripJudged}

@@ -2,7 +2,7 @@
 -- `register_read` gives, handed to `register_write`, is the file byte for byte. By the theorems of `register` over its two contracts, since
 -- the entries that stand at the slice's front are those of the stack that is given. Assumes nothing.
 use mathlib.Core.Path.{◌≡◌, refl, sym, ap, ap₂, ◌∙◌, subst}
-use mathlib.Core.List.{List, ◌++◌}
+use mathlib.Core.List.{List}
 use Prim.Native.Nat.{ℕ, ◌*◌, ◌/◌, ◌≤◌}
 use native.Mathlib.Omega.{arith}
 use lib.IntN.{ℤ}
@@ -11,7 +11,7 @@ use lib.Seq.{take_at}
 use Rattle.fault.specs.Status.{success}
 use Rattle.fault.proofs.Numbers.{number_some}
 use Rattle.stack.specs.declared.Layer.{Layer}
-use Rattle.stack.specs.Laid.{laid, stack_of}
+use Rattle.stack.specs.Laid.{laid}
 use Rattle.stack.proofs.Laying.{counted, laid_of}
 use Rattle.register.specs.declared.FileRead.{FileRead}
 use Rattle.register.specs.declared.ReadBack.{ReadBack}
@@ -20,7 +20,7 @@ use Rattle.register.specs.declared.Written.{Written}
 use Rattle.register.specs.declared.Written.TheVariants as written_is
 use Rattle.register.specs.Writing.{WriteAnswer}
 use Rattle.register.specs.Writing as write
-use Rattle.register.specs.Reading.{Lent, lent, EnoughFor, found, ReadAnswer}
+use Rattle.register.specs.Reading.{Lent, lent, EnoughFor}
 use Rattle.register.specs.Accepted.{WrittenFor}
 use Rattle.register.proofs.RoundTrip as file
 use Rattle.entries.specs.Scattered.{scattered}

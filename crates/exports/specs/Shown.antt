@@ -5,12 +5,9 @@ use Rattle.trace.specs.declared.Judgement.{Judgement}
 use Rattle.trace.specs.declared.Judgement.TheVariants.{Fit, Unfit}
 use Rattle.trace.specs.Status.{judgement_status}
 use Rattle.strip.specs.declared.Valued.{Valued}
-use Rattle.strip.specs.declared.Valued.TheVariants as Valued
 use Rattle.strip.specs.Status.{valued_status}
 use Rattle.joining.specs.declared.Followed.{Followed}
-use Rattle.joining.specs.declared.Followed.TheVariants as Followed
 use Rattle.joining.specs.declared.Run.{Run}
-use Rattle.joining.specs.declared.Run.TheVariants as Run
 use Rattle.joining.specs.Status.{followed_status, run_status}
 use Rattle.exports.specs.declared.Answer.{Answer}
 use Rattle.exports.specs.declared.TraceAnswer.{TraceAnswer}

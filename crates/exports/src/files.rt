@@ -40,8 +40,7 @@ struct Found {
 }
 
 // The register file of a stack with its strips, at the front of `out`.
-#[unsafe(no_mangle)]
-pub extern "C" fn register_write(
+pub fn register_write(
     layers: &[Layer],
     coords: &[i32],
     strips: &[u8],
@@ -70,8 +69,7 @@ fn file_written(stack: Stack, coords: &[i32], strips: &[u8], out: &mut [u8]) -> 
 
 // A register file, read: the entries of its layers, its coordinates and its strips, each at the front of its slice. Of a refused file
 // nothing is written.
-#[unsafe(no_mangle)]
-pub extern "C" fn register_read(
+pub fn register_read(
     file: &[u8],
     layers: &mut [Layer],
     coords: &mut [i32],
@@ -119,8 +117,7 @@ fn read_shown(layers: usize, answer: ReadBack) -> FileAnswer
 }
 
 // What the listing program prints for a text, at the front of `out`.
-#[unsafe(no_mangle)]
-pub extern "C" fn register_listing(text: &[u8], out: &mut [u8]) -> BytesAnswer
+pub fn register_listing(text: &[u8], out: &mut [u8]) -> BytesAnswer
     ensures { Shows (ListingAnswer text.now out.old out.new) listed_as result }
 {
     match listing::listing(text, out) {

@@ -1,5 +1,5 @@
-// The entry points for programs in other languages, under plain names; include/register.h declares them. An answer is a status (a number,
-// which is 0 for success, 100 for none left, else the refusal's, and a place) and what was found.
+// The entry points over plain numbers and slices, for Rattle; the crate `exports_c` hands them to C under the same names. An answer is a
+// status (a number, which is 0 for success, 100 for none left, else the refusal's, and a place) and what was found.
 #![tactic(auto)]
 
 pub mod files;
@@ -45,8 +45,7 @@ pub struct RunAnswer {
 }
 
 // The judgement of one trace.
-#[unsafe(no_mangle)]
-pub extern "C" fn register_judge(coords: &[i32]) -> TraceAnswer
+pub fn register_judge(coords: &[i32]) -> TraceAnswer
     ensures { Shows (Given coords.now) judged_as result }
 {
     let judged = trace::judge(coords);
@@ -65,16 +64,14 @@ pub extern "C" fn register_judge(coords: &[i32]) -> TraceAnswer
 }
 
 // A strip made elsewhere: its value.
-#[unsafe(no_mangle)]
-pub extern "C" fn register_judge_strip(a: &[i32], b: &[i32], strip: &[u8]) -> Answer
+pub fn register_judge_strip(a: &[i32], b: &[i32], strip: &[u8]) -> Answer
     ensures { Shows (StripJudged a.now b.now strip.now) valued result }
 {
     value_shown(strip::judge_strip(a, b, strip))
 }
 
 // The first best strip, at the front of `strip`.
-#[unsafe(no_mangle)]
-pub extern "C" fn register_best(a: &[i32], b: &[i32], strip: &mut [u8], work: &mut [u8]) -> Answer
+pub fn register_best(a: &[i32], b: &[i32], strip: &mut [u8], work: &mut [u8]) -> Answer
     ensures { Shows (BestAnswer a.now b.now strip.old work.old strip.new work.new)
         valued result }
 {
@@ -82,8 +79,7 @@ pub extern "C" fn register_best(a: &[i32], b: &[i32], strip: &mut [u8], work: &m
 }
 
 // The next best strip, in the place of the one handed in.
-#[unsafe(no_mangle)]
-pub extern "C" fn register_next(a: &[i32], b: &[i32], strip: &mut [u8], work: &mut [u8]) -> Answer
+pub fn register_next(a: &[i32], b: &[i32], strip: &mut [u8], work: &mut [u8]) -> Answer
     ensures { Shows (NextAnswer a.now b.now strip.old work.old strip.new work.new)
         followed result }
 {
@@ -91,8 +87,7 @@ pub extern "C" fn register_next(a: &[i32], b: &[i32], strip: &mut [u8], work: &m
 }
 
 // The first `limit` best strips, one after the other in `lines`.
-#[unsafe(no_mangle)]
-pub extern "C" fn register_list_best(
+pub fn register_list_best(
     a: &[i32],
     b: &[i32],
     lines: &mut [u8],

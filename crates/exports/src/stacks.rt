@@ -41,8 +41,7 @@ pub struct MeshAnswer {
 }
 
 // The judgement of a stack.
-#[unsafe(no_mangle)]
-pub extern "C" fn register_judge_stack(layers: &[Layer], coords: &[i32]) -> StackAnswer
+pub fn register_judge_stack(layers: &[Layer], coords: &[i32]) -> StackAnswer
     ensures { Shows (StackJudged layers.now coords.now) stack_as result }
 {
     stack_judged(gather(layers), coords)
@@ -66,8 +65,7 @@ fn stack_judged(stack: Stack, coords: &[i32]) -> StackAnswer
 }
 
 // The first best strip of every band, at the front of `strips`.
-#[unsafe(no_mangle)]
-pub extern "C" fn register_best_strips(
+pub fn register_best_strips(
     layers: &[Layer],
     coords: &[i32],
     strips: &mut [u8],
@@ -96,8 +94,7 @@ fn strips_filled(stack: Stack, coords: &[i32], strips: &mut [u8], work: &mut [u8
 }
 
 // Six times the volume.
-#[unsafe(no_mangle)]
-pub extern "C" fn register_volume(layers: &[Layer], coords: &[i32], strips: &[u8]) -> Answer
+pub fn register_volume(layers: &[Layer], coords: &[i32], strips: &[u8]) -> Answer
     ensures { Shows (Measured layers.now coords.now strips.now) volumed_as result }
 {
     volume_found(gather(layers), coords, strips)
@@ -119,8 +116,7 @@ fn volume_found(stack: Stack, coords: &[i32], strips: &[u8]) -> Answer
 }
 
 // The closed triangle list, at the front of `out`, and six times its volume.
-#[unsafe(no_mangle)]
-pub extern "C" fn register_triangles(
+pub fn register_triangles(
     layers: &[Layer],
     coords: &[i32],
     strips: &[u8],
