@@ -72,6 +72,7 @@ pub fn no_layers(count: usize) -> Stack
 }
 
 // Layer `k` put in. There is room for 20; what does not fit changes nothing.
+#[tactic(auto, using(crate::proofs::Laying::put_in, crate::proofs::Laying::full_stays))]
 pub fn with_layer(mut stack: Stack, k: usize, layer: Layer) -> Stack
     ensures { result ≡ with_layer stack k layer }
 {
