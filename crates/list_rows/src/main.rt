@@ -6,18 +6,17 @@ ghost use Rattle.std.specs.Prelude.{◌≡◌, ◌≤◌, length, IfOk};
 
 use fault::number;
 use listing::Listed;
-use std::io::{BufWriter, ErrorKind, Read, Write};
+use std::io::{ErrorKind, Read, Write};
 use std::rt::Files;
 use std::{fs, io, str};
 
 fn main(rt: HostRuntime) -> io::Result<()> {
-    let mut out = BufWriter::new(rt.alloc(), io::writer(&rt))?;
+    let mut out = io::writer(&rt);
     let mut names = [0u8; 2_000];
     let read = read_full(&mut rt.reader(), &mut names)?;
     show_all(&rt, &mut out, &names[..read])?;
     lent(&mut out, b"0 3 0 0 2 0 0 2 1 3 0 0 2 0 0 2", 501_046)?;
-    lent(&mut out, b"0 3 0 0 2 0 0 2 1 3 0 0 2 0 0 2", 501_050)?;
-    out.flush()
+    lent(&mut out, b"0 3 0 0 2 0 0 2 1 3 0 0 2 0 0 2", 501_050)
 }
 
 // Reads until the list is full or a read gives no byte. Answers how many bytes stand at the front of it.

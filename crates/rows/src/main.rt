@@ -8,6 +8,8 @@
 // still it, and that a stack that came back has no more layers than it may.
 #![tactic(auto)]
 
+ghost use Rattle.std.specs.Prelude.{◌≤◌, length, IfOk};
+
 mod calls;
 mod compares;
 mod desk;
@@ -24,14 +26,27 @@ mod words;
 use crate::desk::{clear, command};
 use crate::words::{none, turn};
 use std::io;
-use std::io::{BufWriter, Read, Write};
+use std::io::{Read, Write};
 
 fn main(rt: HostRuntime) -> io::Result<()> {
-    let mut text = Vec::new(rt.alloc());
-    rt.reader().take(150_000).read_to_end(&mut text)?;
-    let mut out = BufWriter::new(rt.alloc(), io::writer(&rt))?;
-    run(&mut out, &text)?;
-    out.flush()
+    let mut text = [0u8; 150_000];
+    let many = read_full(&mut rt.reader(), &mut text)?;
+    run(&mut io::writer(&rt), &text[..many])
+}
+
+// Reads until the list is full or a read gives no byte. Answers how many bytes stand at the front of it.
+fn read_full(input: &mut impl Read, list: &mut [u8]) -> io::Result<usize>
+    ensures { IfOk result (λ n. n ≤ length list.new) }
+{
+    let mut done = 0;
+    while done < list.len() {
+        let count = input.read(&mut list[done..])?;
+        if count == 0 {
+            return Ok(done);
+        }
+        done += count;
+    }
+    Ok(done)
 }
 
 // Each command, as it ends.
