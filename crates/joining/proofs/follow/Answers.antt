@@ -34,6 +34,22 @@ mark_all-greatest-requires c =
     let p = c.requires.0 in
     (p, room_needs (omega (arith, cells_few _ _ p.pair.lower.not_many p.pair.upper.not_many, c.no_marks-marks.ensures)))
 
+pub returns-then-turned : goal.returns-then-turned
+returns-then-turned c =
+    let given : Handed c.args.a.now c.args.b.now c.args.m c.args.n c.args.strip.now c.in-Value.value = handed c.requires.0 c.judge_strip-handed_in.ensures c.in-Value.is
+    in
+    let p = c.requires.0 in
+    let s = given in
+    let found = c.mark_all-greatest in
+    next_done p c.requires.1
+    (record {
+      handed = s;
+      filled = filled_is (read_back w64 found.result found.type_inv) found.ensures;
+      not_less = ap (λ (v : ℤ). lt_z v (to_z w64 (of_z w64 found.result))) (sym (value_back p s)) ∙ c.if-value-greatest.false;
+      turned = turned_as c.if-turned.true (c.turn-turned.ensures s.strip);
+      zeros = c.clear.ensures;
+    })
+
 pub returns-then-value-greatest : goal.returns-then-value-greatest
 returns-then-value-greatest c =
     let given : Handed c.args.a.now c.args.b.now c.args.m c.args.n c.args.strip.now c.in-Value.value = handed c.requires.0 c.judge_strip-handed_in.ensures c.in-Value.is
@@ -59,22 +75,6 @@ overflow_mul-m c =
 pub clear-requires : goal.clear-requires
 clear-requires c =
     room_needs (enough_work {strip = c.args.strip.now} c.requires.0 c.requires.1)
-
-pub returns-then-turned : goal.returns-then-turned
-returns-then-turned c =
-    let given : Handed c.args.a.now c.args.b.now c.args.m c.args.n c.args.strip.now c.in-Value.value = handed c.requires.0 c.judge_strip-handed_in.ensures c.in-Value.is
-    in
-    let p = c.requires.0 in
-    let s = given in
-    let found = c.mark_all-greatest in
-    next_done p c.requires.1
-    (record {
-      handed = s;
-      filled = filled_is (read_back w64 found.result found.type_inv) found.ensures;
-      not_less = ap (λ (v : ℤ). lt_z v (to_z w64 (of_z w64 found.result))) (sym (value_back p s)) ∙ c.if-value-greatest.false;
-      turned = turned_as c.if-turned.true (c.turn-turned.ensures s.strip);
-      zeros = c.clear.ensures;
-    })
 
 pub returns-else-turned : goal.returns-else-turned
 returns-else-turned c =

@@ -65,6 +65,18 @@ nonzero_div-lines c =
     in
     omega (arith, few_points both)
 
+pub some_lines-written-requires : goal.some_lines-written-requires
+some_lines-written-requires c =
+    let lower : Counts c.args.a.now c.in-Fit.m = counts c.judge-judged.ensures c.in-Fit.is
+    in
+    let both : PairCounts c.args.a.now c.args.b.now c.in-Fit.m c.in-Fit-judged.n = pair_counts lower (counts c.judge-judged-2.ensures c.in-Fit-judged.is)
+    in
+    let fits : c.args.limit * (c.in-Fit.m + c.in-Fit-judged.n) ≤ length c.args.lines.now = lines_fit _ _ c.args.limit (omega (arith, few_points both)) c.if-lines-m.false
+    in
+    let f = few_points both in
+    let table = c.mark_all-value.ensures in
+    (record { w = _; before = _; value = _; filled = table }, omega (arith, f), f.1, f.3, room_needs (omega (arith, table.long, c.if-work-cells.false)), fits)
+
 pub returns-then-lines-m : goal.returns-then-lines-m
 returns-then-lines-m c =
     let lower : Counts c.args.a.now c.in-Fit.m = counts c.judge-judged.ensures c.in-Fit.is
@@ -92,18 +104,6 @@ mark_all-value-requires c =
     in
     let p = both in
     (p, room_needs (enough_lines {lines = c.args.lines.now} {work = c.args.work.now} p fits c.if-work-cells.false).for_work)
-
-pub some_lines-written-requires : goal.some_lines-written-requires
-some_lines-written-requires c =
-    let lower : Counts c.args.a.now c.in-Fit.m = counts c.judge-judged.ensures c.in-Fit.is
-    in
-    let both : PairCounts c.args.a.now c.args.b.now c.in-Fit.m c.in-Fit-judged.n = pair_counts lower (counts c.judge-judged-2.ensures c.in-Fit-judged.is)
-    in
-    let fits : c.args.limit * (c.in-Fit.m + c.in-Fit-judged.n) ≤ length c.args.lines.now = lines_fit _ _ c.args.limit (omega (arith, few_points both)) c.if-lines-m.false
-    in
-    let f = few_points both in
-    let table = c.mark_all-value.ensures in
-    (record { w = _; before = _; value = _; filled = table }, omega (arith, f), f.1, f.3, room_needs (omega (arith, table.long, c.if-work-cells.false)), fits)
 
 pub clear-requires : goal.clear-requires
 clear-requires c = room_needs (omega (arith, c.mark_all-value.ensures.long, c.if-work-cells.false))

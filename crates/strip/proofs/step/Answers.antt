@@ -15,7 +15,7 @@ returns-then-not-so_far c = let e = not-true _ c.if-not-so_far.true in (lost e e
 
 -- ---- a step A
 pub returns-then-byte-gt1 : goal.returns-then-byte-gt1
-returns-then-byte-gt1 c = (over c.lost.ensures.0 c.if-byte-gt1.true, c.lost.ensures.1)
+returns-then-byte-gt1 c = (over c.lost.ensures.0 (omega (arith, c.if-byte-gt1.true)), c.lost.ensures.1)
 
 -- ---- a step A
 

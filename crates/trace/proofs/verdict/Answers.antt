@@ -8,6 +8,14 @@ use Rattle.whole.proofs.Machine.{read_back}
 use Rattle.trace.specs.Judged.{verdict_of}
 use Rattle.trace.proofs.verdict.Goals as goal
 
+pub returns : goal.returns
+unfolding verdict_of
+returns c =
+    let all = c.args.all in
+    let back : _ ≡ all.area = read_back w64 all.area c.struct_told-2-1.given.1.0.1 in
+    let turn : le_z all.area (pos 0) ≡ false = ap (λ (z : ℤ). le_z z (pos 0)) (sym back) ∙ c.if-all-le0.false in
+    rw (c.if-all.false, c.if-all-2.false, turn, back)
+
 pub returns-then-all : goal.returns-then-all
 unfolding verdict_of
 returns-then-all c = rw c.if-all.true
@@ -23,11 +31,3 @@ returns-then-all-le0 c =
     let turn : le_z all.area (pos 0) ≡ true =
     ap (λ (z : ℤ). le_z z (pos 0)) (sym (read_back w64 all.area c.struct_told-1.given.1.0.1)) ∙ c.if-all-le0.true in
     rw (c.if-all.false, c.if-all-2.false, turn)
-
-pub returns : goal.returns
-unfolding verdict_of
-returns c =
-    let all = c.args.all in
-    let back : _ ≡ all.area = read_back w64 all.area c.struct_told-2-1.given.1.0.1 in
-    let turn : le_z all.area (pos 0) ≡ false = ap (λ (z : ℤ). le_z z (pos 0)) (sym back) ∙ c.if-all-le0.false in
-    rw (c.if-all.false, c.if-all-2.false, turn, back)

@@ -1,7 +1,7 @@
 -- `joining::walking::step_back` meets its contract: along the borders the marks keep it inside. Assumes nothing.
-use mathlib.Core.Path.{◌≡◌, sym, ap, ◌∙◌}
+use mathlib.Core.Path.{◌≡◌}
 use mathlib.Core.Bool.{true, false}
-use Prim.Native.Nat.{ℕ, ◌-◌, ◌%◌}
+use Prim.Native.Nat.{◌-◌}
 use native.Mathlib.Omega.{arith}
 use borrow.Author.Tests.{eq-eqb, ne_eqb}
 use Rattle.joining.specs.Walking.{says_a, by_a, by_b}
@@ -23,7 +23,7 @@ mark_at-mark-requires c = c.requires.0.long
 pub overflow_sub-result : goal.overflow_sub-result
 unfolding says_a
 overflow_sub-result c =
-    let yes-a : says_a c.args.marks.now c.args.n c.args.i c.args.j ≡ true = eq-eqb _ 1 (ap (λ (m : ℕ). m % 2) (sym c.mark_at-mark.ensures) ∙ c.if-mark-eq1.true)
+    let yes-a : says_a c.args.marks.now c.args.n c.args.i c.args.j ≡ true = eq-eqb _ 1 (omega (arith, c.mark_at-mark.ensures, c.if-mark-eq1.true))
     in
     let a = c.args in
     back_a a.marks.now a.n a.i a.j c.requires.0 yes-a
@@ -31,14 +31,14 @@ overflow_sub-result c =
 pub returns-then-mark-eq1 : goal.returns-then-mark-eq1
 unfolding says_a
 returns-then-mark-eq1 c =
-    let yes-a : says_a c.args.marks.now c.args.n c.args.i c.args.j ≡ true = eq-eqb _ 1 (ap (λ (m : ℕ). m % 2) (sym c.mark_at-mark.ensures) ∙ c.if-mark-eq1.true)
+    let yes-a : says_a c.args.marks.now c.args.n c.args.i c.args.j ≡ true = eq-eqb _ 1 (omega (arith, c.mark_at-mark.ensures, c.if-mark-eq1.true))
     in
     by_a {a = c.args.i - 1} yes-a (omega (arith, overflow_sub-result c))
 
 pub overflow_sub-result-2 : goal.overflow_sub-result-2
 unfolding says_a
 overflow_sub-result-2 c =
-    let no-a : says_a c.args.marks.now c.args.n c.args.i c.args.j ≡ false = ne_eqb _ 1 (λ e. c.if-mark-eq1.false (ap (λ (m : ℕ). m % 2) c.mark_at-mark.ensures ∙ e))
+    let no-a : says_a c.args.marks.now c.args.n c.args.i c.args.j ≡ false = ne_eqb _ 1 (λ e. omega (arith, c.mark_at-mark.ensures, c.if-mark-eq1.false, e))
     in
     let a = c.args in
     back_b a.marks.now a.n a.i a.j c.requires.0 c.requires.1 no-a
@@ -46,6 +46,6 @@ overflow_sub-result-2 c =
 pub returns : goal.returns
 unfolding says_a
 returns c =
-    let no-a : says_a c.args.marks.now c.args.n c.args.i c.args.j ≡ false = ne_eqb _ 1 (λ e. c.if-mark-eq1.false (ap (λ (m : ℕ). m % 2) c.mark_at-mark.ensures ∙ e))
+    let no-a : says_a c.args.marks.now c.args.n c.args.i c.args.j ≡ false = ne_eqb _ 1 (λ e. omega (arith, c.mark_at-mark.ensures, c.if-mark-eq1.false, e))
     in
     by_b {b = c.args.j - 1} no-a (omega (arith, overflow_sub-result-2 c))

@@ -19,13 +19,13 @@ overflow_add-k c = omega (arith, c.loop-k.invariant.0.here, twenty c.requires)
 pub layer_area-upper-requires : goal.layer_area-upper-requires
 layer_area-upper-requires c = (c.requires.stack, omega arith)
 
-pub overflow_add-lower : goal.overflow_add-lower
-overflow_add-lower c = fits_holds w64 (areas_held c.requires c.loop-k.invariant.0 (omega arith) c.layer_area-upper.ensures) tt
-
 pub band_six-six-requires : goal.band_six-six-requires
 band_six-six-requires c =
     let areas = areas_held c.requires c.loop-k.invariant.0 (omega arith) c.layer_area-upper.ensures in
     (c.requires, omega arith, c.loop-k.invariant.0.start, (held w64 areas tt).is)
+
+pub overflow_add-lower : goal.overflow_add-lower
+overflow_add-lower c = fits_holds w64 (areas_held c.requires c.loop-k.invariant.0 (omega arith) c.layer_area-upper.ensures) tt
 
 pub overflow_add-six : goal.overflow_add-six
 overflow_add-six c =
