@@ -169,6 +169,11 @@ pub record Capped (st : Stack) (l : List ℕ) (n : ℕ) (old : List ℕ) (d g : 
   pub bottom : d ≡ entry (laid st) 0
   pub top : g ≡ entry (laid st) (st.count - 1)
 
+pub capped : {st : Stack} {l old : List ℕ} {n : ℕ} {d g : Layer}
+    → Drawn st l × (n ≡ steps (laid st)) × (3 * triangles (laid st) ≤ length old)
+    → d ≡ entry (laid st) 0 → g ≡ entry (laid st) (st.count - 1) → Capped st l n old d g
+capped s d g = record { drawn = s.0; taken = s.1; room = s.2; bottom = d; top = g }
+
 -- all bands
 abbrev pub bands_of : Stack → List ℕ → List Tri
 bands_of st l = bands_to (laid st) l (st.count - 1)

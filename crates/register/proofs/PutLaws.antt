@@ -23,7 +23,8 @@ use Rattle.whole.proofs.Filling.{behind, back, back_long, filled_more}
 use Rattle.blocks.specs.Blocks.{two}
 use Rattle.stack.specs.declared.Layer.{Layer}
 use Rattle.stack.specs.Entries.{no_layer, entry, trace_of, stop, start, steps}
-use Rattle.stack.specs.Faults.{Spanned}
+use Rattle.stack.specs.Faults.{Spanned, AcceptedStack}
+use Rattle.stack.specs.Strips.{StripsRight}
 use Rattle.stack.proofs.StackLaws.{spanned_first, spanned_end, spanned_inside}
 use Rattle.register.proofs.DecodeLaws.{four_long, fours_long}
 use Rattle.register.proofs.ChainLaws.{trace_long}
@@ -259,6 +260,11 @@ two_long v = refl
 pub long_parts : {es : List Layer} {c : List ℤ} → Spanned es c → 0 < length es → contents_long es c ≡ 2 + length (layers_bytes c es) + steps es
 unfolding contents_long
 long_parts s h = omega (arith, layers_long s h)
+
+-- .. so there is room for the three
+pub parts_fit : {es : List Layer} {c : List ℤ} {l : List ℕ} (old : List ℕ) → AcceptedStack es c × StripsRight es l × (contents_long es c ≤ length old)
+    → 2 + length (layers_bytes c es) + length l ≤ length old
+parts_fit old s = omega (arith, long_parts s.0.spanned (omega (arith, s.0.layers.two)), s.1.long, s.2)
 
 pub contents_long_lem : {es : List Layer} {c : List ℤ} (l : List ℕ) → Spanned es c → 0 < length es → length l ≡ steps es
     → length (contents es c l) ≡ contents_long es c

@@ -20,7 +20,7 @@ use Rattle.ways.proofs.Greatest.{value_snoc_a, value_snoc_b}
 use Rattle.trace.specs.Points.{count}
 use Rattle.fault.specs.Gates.{at}
 use Rattle.trace.specs.Outline.{fairly}
-use Rattle.trace.proofs.OutlineLaws.{fairly_same}
+use Rattle.trace.proofs.OutlineLaws.{fairly_same, fairly_count, fairly_ranged}
 use Rattle.strip.specs.Pair.{Pair, PairCounts}
 use Rattle.fault.specs.declared.Fault.TheVariants.{Strip as NoStrip}
 use Rattle.strip.specs.declared.Walked.{Walked}
@@ -54,6 +54,18 @@ along_begun a b l s ei ej ev e = record {
     value = ev;
   };
   lost = λ f. absurd (true≢false (sym e ∙ f));
+}
+
+-- ---- the two sides of a walk over any two lists
+
+pub fair_sides : (a b : List ℤ) {m n : ℕ} → m ≡ count (fairly a) → n ≡ count (fairly b) → Sides (fairly a) (fairly b) m n
+fair_sides a b x y = record {
+  lower = fairly_ranged a;
+  upper = fairly_ranged b;
+  count_a = x;
+  count_b = y;
+  few_a = omega (arith, x, fairly_count a);
+  few_b = omega (arith, y, fairly_count b);
 }
 
 -- ---- what one byte more asks

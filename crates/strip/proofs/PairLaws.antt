@@ -94,6 +94,10 @@ counts {c} {area = area} {n = n} (unfit s) q = absurd (let z : ◌≡◌ {A = �
 pub pair_counts : {a b : List ℤ} {m n : ℕ} → Counts a m → Counts b n → PairCounts a b m n
 pair_counts x y = record { pair = record { lower = x.accepted; upper = y.accepted }; count_a = x.counted; count_b = y.counted }
 
+-- .. so where both judgements are "fit" with m and n points
+pub both_counts : {a b : List ℤ} {j k : Judgement} {s t : ℤ} {m n : ℕ} → Given a j → j ≡ Fit s m → Given b k → k ≡ Fit t n → PairCounts a b m n
+both_counts x p y q = pair_counts (counts x p) (counts y q)
+
 -- 3 to 250 each
 pub few_points : {a b : List ℤ} {m n : ℕ} → PairCounts a b m n → (3 ≤ m) × (m ≤ 250) × (3 ≤ n) × (n ≤ 250)
 few_points p =

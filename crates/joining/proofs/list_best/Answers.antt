@@ -4,8 +4,7 @@ use native.Mathlib.Omega.{arith}
 use lib.ListN.{length}
 use mir.Syntax.{w64}
 use Rattle.whole.proofs.Machine.{read_back}
-use Rattle.strip.specs.Pair.{PairCounts}
-use Rattle.strip.proofs.PairLaws.{Counts, counts, pair_counts, few_points, refuses_lower, refuses_upper}
+use Rattle.strip.proofs.PairLaws.{counts, both_counts, few_points, refuses_lower, refuses_upper}
 use Rattle.joining.proofs.ListCases.{pair, room}
 use Rattle.joining.proofs.CellLaws.{room_needs}
 use Rattle.joining.proofs.RowLaws.{cells_few}
@@ -19,58 +18,38 @@ returns-in_default c = pair (refuses_lower c.judge-judged.ensures c.in_default.i
 
 pub returns-in_default-judged : goal.returns-in_default-judged
 returns-in_default-judged c =
-    let lower : Counts c.args.a.now c.in-Fit.m = counts c.judge-judged.ensures c.in-Fit.is
-    in
     pair
-    (refuses_upper lower.accepted c.judge-judged-2.ensures c.in_default-judged.is c.refused-in_default-judged.ensures)
+    (refuses_upper (counts c.judge-judged.ensures c.in-Fit.is).accepted c.judge-judged-2.ensures c.in_default-judged.is c.refused-in_default-judged.ensures)
     untouched
 
 pub overflow_add-cells : goal.overflow_add-cells
 overflow_add-cells c =
-    let lower : Counts c.args.a.now c.in-Fit.m = counts c.judge-judged.ensures c.in-Fit.is
-    in
-    let both : PairCounts c.args.a.now c.args.b.now c.in-Fit.m c.in-Fit-judged.n = pair_counts lower (counts c.judge-judged-2.ensures c.in-Fit-judged.is)
-    in
+    let both = both_counts c.judge-judged.ensures c.in-Fit.is c.judge-judged-2.ensures c.in-Fit-judged.is in
     omega (arith, few_points both)
 
 pub overflow_add-cells-2 : goal.overflow_add-cells-2
 overflow_add-cells-2 c =
-    let lower : Counts c.args.a.now c.in-Fit.m = counts c.judge-judged.ensures c.in-Fit.is
-    in
-    let both : PairCounts c.args.a.now c.args.b.now c.in-Fit.m c.in-Fit-judged.n = pair_counts lower (counts c.judge-judged-2.ensures c.in-Fit-judged.is)
-    in
+    let both = both_counts c.judge-judged.ensures c.in-Fit.is c.judge-judged-2.ensures c.in-Fit-judged.is in
     omega (arith, few_points both)
 
 pub overflow_mul-cells : goal.overflow_mul-cells
 overflow_mul-cells c =
-    let lower : Counts c.args.a.now c.in-Fit.m = counts c.judge-judged.ensures c.in-Fit.is
-    in
-    let both : PairCounts c.args.a.now c.args.b.now c.in-Fit.m c.in-Fit-judged.n = pair_counts lower (counts c.judge-judged-2.ensures c.in-Fit-judged.is)
-    in
+    let both = both_counts c.judge-judged.ensures c.in-Fit.is c.judge-judged-2.ensures c.in-Fit-judged.is in
     omega (arith, cells_few _ _ (few_points both).1 (few_points both).3)
 
 pub overflow_add-m : goal.overflow_add-m
 overflow_add-m c =
-    let lower : Counts c.args.a.now c.in-Fit.m = counts c.judge-judged.ensures c.in-Fit.is
-    in
-    let both : PairCounts c.args.a.now c.args.b.now c.in-Fit.m c.in-Fit-judged.n = pair_counts lower (counts c.judge-judged-2.ensures c.in-Fit-judged.is)
-    in
+    let both = both_counts c.judge-judged.ensures c.in-Fit.is c.judge-judged-2.ensures c.in-Fit-judged.is in
     omega (arith, few_points both)
 
 pub nonzero_div-lines : goal.nonzero_div-lines
 nonzero_div-lines c =
-    let lower : Counts c.args.a.now c.in-Fit.m = counts c.judge-judged.ensures c.in-Fit.is
-    in
-    let both : PairCounts c.args.a.now c.args.b.now c.in-Fit.m c.in-Fit-judged.n = pair_counts lower (counts c.judge-judged-2.ensures c.in-Fit-judged.is)
-    in
+    let both = both_counts c.judge-judged.ensures c.in-Fit.is c.judge-judged-2.ensures c.in-Fit-judged.is in
     omega (arith, few_points both)
 
 pub some_lines-written-requires : goal.some_lines-written-requires
 some_lines-written-requires c =
-    let lower : Counts c.args.a.now c.in-Fit.m = counts c.judge-judged.ensures c.in-Fit.is
-    in
-    let both : PairCounts c.args.a.now c.args.b.now c.in-Fit.m c.in-Fit-judged.n = pair_counts lower (counts c.judge-judged-2.ensures c.in-Fit-judged.is)
-    in
+    let both = both_counts c.judge-judged.ensures c.in-Fit.is c.judge-judged-2.ensures c.in-Fit-judged.is in
     let fits : c.args.limit * (c.in-Fit.m + c.in-Fit-judged.n) ≤ length c.args.lines.now = lines_fit _ _ c.args.limit (omega (arith, few_points both)) c.if-lines-m.false
     in
     let f = few_points both in
@@ -79,27 +58,18 @@ some_lines-written-requires c =
 
 pub returns-then-lines-m : goal.returns-then-lines-m
 returns-then-lines-m c =
-    let lower : Counts c.args.a.now c.in-Fit.m = counts c.judge-judged.ensures c.in-Fit.is
-    in
-    let both : PairCounts c.args.a.now c.args.b.now c.in-Fit.m c.in-Fit-judged.n = pair_counts lower (counts c.judge-judged-2.ensures c.in-Fit-judged.is)
-    in
+    let both = both_counts c.judge-judged.ensures c.in-Fit.is c.judge-judged-2.ensures c.in-Fit-judged.is in
     refused_as c.no_lines.ensures
     (room both.pair (short_lines both (lines_short _ _ _ (omega (arith, few_points both)) c.if-lines-m.true)) untouched)
 
 pub returns-then-work-cells : goal.returns-then-work-cells
 returns-then-work-cells c =
-    let lower : Counts c.args.a.now c.in-Fit.m = counts c.judge-judged.ensures c.in-Fit.is
-    in
-    let both : PairCounts c.args.a.now c.args.b.now c.in-Fit.m c.in-Fit-judged.n = pair_counts lower (counts c.judge-judged-2.ensures c.in-Fit-judged.is)
-    in
+    let both = both_counts c.judge-judged.ensures c.in-Fit.is c.judge-judged-2.ensures c.in-Fit-judged.is in
     refused_as c.no_lines-then-work-cells.ensures (room both.pair (short_marks both c.if-work-cells.true) untouched)
 
 pub mark_all-value-requires : goal.mark_all-value-requires
 mark_all-value-requires c =
-    let lower : Counts c.args.a.now c.in-Fit.m = counts c.judge-judged.ensures c.in-Fit.is
-    in
-    let both : PairCounts c.args.a.now c.args.b.now c.in-Fit.m c.in-Fit-judged.n = pair_counts lower (counts c.judge-judged-2.ensures c.in-Fit-judged.is)
-    in
+    let both = both_counts c.judge-judged.ensures c.in-Fit.is c.judge-judged-2.ensures c.in-Fit-judged.is in
     let fits : c.args.limit * (c.in-Fit.m + c.in-Fit-judged.n) ≤ length c.args.lines.now = lines_fit _ _ c.args.limit (omega (arith, few_points both)) c.if-lines-m.false
     in
     let p = both in
@@ -110,10 +80,7 @@ clear-requires c = room_needs (omega (arith, c.mark_all-value.ensures.long, c.if
 
 pub returns : goal.returns
 returns c =
-    let lower : Counts c.args.a.now c.in-Fit.m = counts c.judge-judged.ensures c.in-Fit.is
-    in
-    let both : PairCounts c.args.a.now c.args.b.now c.in-Fit.m c.in-Fit-judged.n = pair_counts lower (counts c.judge-judged-2.ensures c.in-Fit-judged.is)
-    in
+    let both = both_counts c.judge-judged.ensures c.in-Fit.is c.judge-judged-2.ensures c.in-Fit-judged.is in
     let fits : c.args.limit * (c.in-Fit.m + c.in-Fit-judged.n) ≤ length c.args.lines.now = lines_fit _ _ c.args.limit (omega (arith, few_points both)) c.if-lines-m.false
     in
     let p = both in

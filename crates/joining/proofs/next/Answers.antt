@@ -1,8 +1,7 @@
 -- `joining::next` meets its contract: a pair at fault and a slice that is too short are its own cases, all others are `follow`'s. Assumes
 -- nothing.
 use native.Mathlib.Omega.{arith}
-use Rattle.strip.specs.Pair.{PairCounts}
-use Rattle.strip.proofs.PairLaws.{Counts, counts, pair_counts, few_points, refuses_lower, refuses_upper}
+use Rattle.strip.proofs.PairLaws.{counts, both_counts, few_points, refuses_lower, refuses_upper}
 use Rattle.joining.proofs.NextCases.{pair, room}
 use Rattle.joining.proofs.RowLaws.{cells_few}
 use Rattle.joining.proofs.BestLaws.{untouched, short, roomy}
@@ -14,58 +13,38 @@ returns-in_default c = pair (refuses_lower c.judge-judged.ensures c.in_default.i
 
 pub returns-in_default-judged : goal.returns-in_default-judged
 returns-in_default-judged c =
-    let lower : Counts c.args.a.now c.in-Fit.m = counts c.judge-judged.ensures c.in-Fit.is
-    in
     pair
-    (refuses_upper lower.accepted c.judge-judged-2.ensures c.in_default-judged.is c.refused-in_default-judged.ensures)
+    (refuses_upper (counts c.judge-judged.ensures c.in-Fit.is).accepted c.judge-judged-2.ensures c.in_default-judged.is c.refused-in_default-judged.ensures)
     untouched
 
 pub overflow_add-m : goal.overflow_add-m
 overflow_add-m c =
-    let lower : Counts c.args.a.now c.in-Fit.m = counts c.judge-judged.ensures c.in-Fit.is
-    in
-    let both : PairCounts c.args.a.now c.args.b.now c.in-Fit.m c.in-Fit-judged.n = pair_counts lower (counts c.judge-judged-2.ensures c.in-Fit-judged.is)
-    in
+    let both = both_counts c.judge-judged.ensures c.in-Fit.is c.judge-judged-2.ensures c.in-Fit-judged.is in
     omega (arith, few_points both)
 
 pub overflow_add-m-2 : goal.overflow_add-m-2
 overflow_add-m-2 c =
-    let lower : Counts c.args.a.now c.in-Fit.m = counts c.judge-judged.ensures c.in-Fit.is
-    in
-    let both : PairCounts c.args.a.now c.args.b.now c.in-Fit.m c.in-Fit-judged.n = pair_counts lower (counts c.judge-judged-2.ensures c.in-Fit-judged.is)
-    in
+    let both = both_counts c.judge-judged.ensures c.in-Fit.is c.judge-judged-2.ensures c.in-Fit-judged.is in
     omega (arith, few_points both)
 
 pub overflow_add-n : goal.overflow_add-n
 overflow_add-n c =
-    let lower : Counts c.args.a.now c.in-Fit.m = counts c.judge-judged.ensures c.in-Fit.is
-    in
-    let both : PairCounts c.args.a.now c.args.b.now c.in-Fit.m c.in-Fit-judged.n = pair_counts lower (counts c.judge-judged-2.ensures c.in-Fit-judged.is)
-    in
+    let both = both_counts c.judge-judged.ensures c.in-Fit.is c.judge-judged-2.ensures c.in-Fit-judged.is in
     omega (arith, few_points both)
 
 pub overflow_mul-m : goal.overflow_mul-m
 overflow_mul-m c =
-    let lower : Counts c.args.a.now c.in-Fit.m = counts c.judge-judged.ensures c.in-Fit.is
-    in
-    let both : PairCounts c.args.a.now c.args.b.now c.in-Fit.m c.in-Fit-judged.n = pair_counts lower (counts c.judge-judged-2.ensures c.in-Fit-judged.is)
-    in
+    let both = both_counts c.judge-judged.ensures c.in-Fit.is c.judge-judged-2.ensures c.in-Fit-judged.is in
     omega (arith, cells_few _ _ (few_points both).1 (few_points both).3)
 
 pub returns-then-strip-m : goal.returns-then-strip-m
 returns-then-strip-m c =
-    let lower : Counts c.args.a.now c.in-Fit.m = counts c.judge-judged.ensures c.in-Fit.is
-    in
-    let both : PairCounts c.args.a.now c.args.b.now c.in-Fit.m c.in-Fit-judged.n = pair_counts lower (counts c.judge-judged-2.ensures c.in-Fit-judged.is)
-    in
+    let both = both_counts c.judge-judged.ensures c.in-Fit.is c.judge-judged-2.ensures c.in-Fit-judged.is in
     let p = both in
     refused_is c.refusal.ensures (room p.pair (short c.args.strip.now c.args.work.now p c.if-strip-m.true) untouched)
 
 pub follow-requires : goal.follow-requires
 follow-requires c =
-    let lower : Counts c.args.a.now c.in-Fit.m = counts c.judge-judged.ensures c.in-Fit.is
-    in
-    let both : PairCounts c.args.a.now c.args.b.now c.in-Fit.m c.in-Fit-judged.n = pair_counts lower (counts c.judge-judged-2.ensures c.in-Fit-judged.is)
-    in
+    let both = both_counts c.judge-judged.ensures c.in-Fit.is c.judge-judged-2.ensures c.in-Fit-judged.is in
     let p = both in
     (p, roomy c.args.strip.now c.args.work.now p c.if-strip-m.false)

@@ -13,7 +13,6 @@ use Rattle.strip.proofs.step.Goals as goal
 pub returns-then-not-so_far : goal.returns-then-not-so_far
 returns-then-not-so_far c = let e = not-true _ c.if-not-so_far.true in (lost e e, c.requires.2)
 
--- ---- a step A
 pub returns-then-byte-gt1 : goal.returns-then-byte-gt1
 returns-then-byte-gt1 c = (over c.lost.ensures.0 (omega (arith, c.if-byte-gt1.true)), c.lost.ensures.1)
 
@@ -41,7 +40,6 @@ overflow_add-result-then-byte-eq0 c =
     in
     fits_holds w64 sum tt
 
--- ---- a step B
 pub returns-then-byte-eq0 : goal.returns-then-byte-eq0
 returns-then-byte-eq0 c =
     let ok : c.args.so_far.ok ≡ true = not-false _ c.if-not-so_far.false

@@ -8,12 +8,10 @@ use mir.Syntax.{w64}
 use mir.Val.{to_z, of_z}
 use Rattle.whole.specs.Between.{Within}
 use Rattle.whole.proofs.Machine.{read_back}
-use Rattle.trace.specs.Outline.{fairly}
-use Rattle.trace.proofs.OutlineLaws.{fairly_count, fairly_ranged}
-use Rattle.strip.specs.Walk.{gain_of, Sides}
+use Rattle.strip.specs.Walk.{gain_of}
 use Rattle.strip.proofs.ArrayLaws.{arrays_of}
 use Rattle.strip.proofs.StepLaws.{gains, gain_within}
-use Rattle.strip.proofs.Along.{along_begun, along_ready, along_more}
+use Rattle.strip.proofs.Along.{fair_sides, along_begun, along_ready, along_more}
 use Rattle.strip.proofs.walk.Goals as goal
 
 pub loop-k-init : goal.loop-k-init
@@ -24,17 +22,7 @@ gain-more-requires c = let few = c.loop-k.invariant.2 in (few.i, few.j)
 
 pub step-so_far-requires : goal.step-so_far-requires
 step-so_far-requires c =
-    let sides : Sides (fairly c.args.a.now) (fairly c.args.b.now) c.outline_of-lower.result.count c.outline_of-upper.result.count = let o = c.outline_of-lower.ensures in
-    let u = c.outline_of-upper.ensures in
-    record {
-      lower = fairly_ranged c.args.a.now;
-      upper = fairly_ranged c.args.b.now;
-      count_a = o.counted;
-      count_b = u.counted;
-      few_a = omega (arith, o.counted, fairly_count c.args.a.now);
-      few_b = omega (arith, u.counted, fairly_count c.args.b.now);
-    }
-    in
+    let sides = fair_sides c.args.a.now c.args.b.now c.outline_of-lower.ensures.counted c.outline_of-upper.ensures.counted in
     let gained : let p = c.outline_of-lower.result in
     let q = c.outline_of-upper.result in
     to_z w64 (of_z w64 c.gain-more.result) ≡ gain_of (get_or c.args.strip.now c.loop-k.k 0) c.loop-k.so_far.i c.loop-k.so_far.j (arrays_of p) (arrays_of q) = read_back w64 c.gain-more.result c.gain-more.type_inv ∙ c.gain-more.ensures
@@ -54,17 +42,7 @@ loop-k-smaller c = omega (arith, c.loop-k-test.true)
 
 pub loop-k-preserved : goal.loop-k-preserved
 loop-k-preserved c =
-    let sides : Sides (fairly c.args.a.now) (fairly c.args.b.now) c.outline_of-lower.result.count c.outline_of-upper.result.count = let o = c.outline_of-lower.ensures in
-    let u = c.outline_of-upper.ensures in
-    record {
-      lower = fairly_ranged c.args.a.now;
-      upper = fairly_ranged c.args.b.now;
-      count_a = o.counted;
-      count_b = u.counted;
-      few_a = omega (arith, o.counted, fairly_count c.args.a.now);
-      few_b = omega (arith, u.counted, fairly_count c.args.b.now);
-    }
-    in
+    let sides = fair_sides c.args.a.now c.args.b.now c.outline_of-lower.ensures.counted c.outline_of-upper.ensures.counted in
     let gained : let p = c.outline_of-lower.result in
     let q = c.outline_of-upper.result in
     to_z w64 (of_z w64 c.gain-more.result) ≡ gain_of (get_or c.args.strip.now c.loop-k.k 0) c.loop-k.so_far.i c.loop-k.so_far.j (arrays_of p) (arrays_of q) = read_back w64 c.gain-more.result c.gain-more.type_inv ∙ c.gain-more.ensures

@@ -2,17 +2,14 @@
 use mathlib.Core.Path.{◌≡◌, refl, sym, ◌∙◌}
 use mathlib.Core.Bool.{Bool, true, false, ◌&&◌}
 use Prim.Native.Nat.{ℕ}
-use native.Mathlib.Omega.{arith}
 use lib.Dec.{eqb}
 use borrow.Author.Tests.{eqb-true, eq-eqb}
 use mir.Syntax.{w64}
 use Rattle.whole.proofs.TestLaws.{true≢false, and_true}
 use Rattle.whole.proofs.Machine.{held, from}
-use Rattle.trace.specs.Outline.{fairly}
-use Rattle.trace.proofs.OutlineLaws.{fairly_count, fairly_ranged}
+use Rattle.trace.proofs.OutlineLaws.{fairly_count}
 use Rattle.strip.specs.declared.Walked.{Walked}
-use Rattle.strip.specs.Walk.{Sides}
-use Rattle.strip.proofs.Along.{along_ready, along_weighed, none_weighed}
+use Rattle.strip.proofs.Along.{fair_sides, along_ready, along_weighed, none_weighed}
 use Rattle.strip.proofs.weigh.Goals as goal
 
 -- the test at the end, as it is computed
@@ -33,19 +30,9 @@ not_ended s m n e (o, i, j) = true≢false (sym yes ∙ e)
 
 pub returns-then-all-m : goal.returns-then-all-m
 returns-then-all-m c =
-    let sides : Sides (fairly c.args.a.now) (fairly c.args.b.now) c.points_read-m.result c.points_read-n.result = let a = c.args.a.now in
+    let a = c.args.a.now in
     let b = c.args.b.now in
-    let m = c.points_read-m.ensures ∙ sym (fairly_count a) in
-    let n = c.points_read-n.ensures ∙ sym (fairly_count b) in
-    record {
-      lower = fairly_ranged a;
-      upper = fairly_ranged b;
-      count_a = m;
-      count_b = n;
-      few_a = omega (arith, m, fairly_count a);
-      few_b = omega (arith, n, fairly_count b);
-    }
-    in
+    let sides = fair_sides a b (c.points_read-m.ensures ∙ sym (fairly_count a)) (c.points_read-n.ensures ∙ sym (fairly_count b)) in
     let s = c.walk-all.result in
     let f = sides in
     let all = has_ended s _ _ c.if-all-m.true in
@@ -54,17 +41,7 @@ returns-then-all-m c =
 
 pub returns : goal.returns
 returns c =
-    let sides : Sides (fairly c.args.a.now) (fairly c.args.b.now) c.points_read-m.result c.points_read-n.result = let a = c.args.a.now in
+    let a = c.args.a.now in
     let b = c.args.b.now in
-    let m = c.points_read-m.ensures ∙ sym (fairly_count a) in
-    let n = c.points_read-n.ensures ∙ sym (fairly_count b) in
-    record {
-      lower = fairly_ranged a;
-      upper = fairly_ranged b;
-      count_a = m;
-      count_b = n;
-      few_a = omega (arith, m, fairly_count a);
-      few_b = omega (arith, n, fairly_count b);
-    }
-    in
+    let sides = fair_sides a b (c.points_read-m.ensures ∙ sym (fairly_count a)) (c.points_read-n.ensures ∙ sym (fairly_count b)) in
     none_weighed sides c.walk-all.ensures (not_ended c.walk-all.result _ _ c.if-all-m.false)

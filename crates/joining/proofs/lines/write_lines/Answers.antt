@@ -38,38 +38,25 @@ loop-count-init c =
 
 pub slice_bounds-add_line-count : goal.slice_bounds-add_line-count
 slice_bounds-add_line-count c =
-    let so : LinesSo c.requires.0.w c.args.m c.args.n c.trace_back.new.strip c.loop-count.count c.loop-count.last c.loop-count.lines = c.loop-count.invariant.3 c.requires.0
-    in
-    let as_long : c.args.limit * (c.args.m + c.args.n) ≤ length c.trace_back.new.strip = omega (arith, c.trace_back.auto.strip, c.requires.6)
-    in
-    let one_line : c.loop-count.last + (c.args.m + c.args.n) ≤ length c.loop-count.lines = fits_one c.args.limit so as_long c.loop-count.invariant.0
-    in
+    let so = c.loop-count.invariant.3 c.requires.0 in
+    let one_line = fits_one c.args.limit so (omega (arith, c.trace_back.auto.strip, c.requires.6)) c.loop-count.invariant.0 in
     omega (arith, one_line)
 
 pub slice_bounds-add_line-start : goal.slice_bounds-add_line-start
 slice_bounds-add_line-start c =
-    let so : LinesSo c.requires.0.w c.args.m c.args.n c.trace_back.new.strip c.loop-count.count c.loop-count.last c.loop-count.lines = c.loop-count.invariant.3 c.requires.0
-    in
-    let as_long : c.args.limit * (c.args.m + c.args.n) ≤ length c.trace_back.new.strip = omega (arith, c.trace_back.auto.strip, c.requires.6)
-    in
-    let one_line : c.loop-count.last + (c.args.m + c.args.n) ≤ length c.loop-count.lines = fits_one c.args.limit so as_long c.loop-count.invariant.0
-    in
+    let so = c.loop-count.invariant.3 c.requires.0 in
+    let one_line = fits_one c.args.limit so (omega (arith, c.trace_back.auto.strip, c.requires.6)) c.loop-count.invariant.0 in
     omega (arith, one_line)
 
 pub slice_bounds-add_line-end : goal.slice_bounds-add_line-end
 slice_bounds-add_line-end c =
-    let so : LinesSo c.requires.0.w c.args.m c.args.n c.trace_back.new.strip c.loop-count.count c.loop-count.last c.loop-count.lines = c.loop-count.invariant.3 c.requires.0
-    in
-    let as_long : c.args.limit * (c.args.m + c.args.n) ≤ length c.trace_back.new.strip = omega (arith, c.trace_back.auto.strip, c.requires.6)
-    in
-    let one_line : c.loop-count.last + (c.args.m + c.args.n) ≤ length c.loop-count.lines = fits_one c.args.limit so as_long c.loop-count.invariant.0
-    in
+    let so = c.loop-count.invariant.3 c.requires.0 in
+    let one_line = fits_one c.args.limit so (omega (arith, c.trace_back.auto.strip, c.requires.6)) c.loop-count.invariant.0 in
     omega (arith, one_line)
 
 pub add_line-requires : goal.add_line-requires
 add_line-requires c =
-    let so : LinesSo c.requires.0.w c.args.m c.args.n c.trace_back.new.strip c.loop-count.count c.loop-count.last c.loop-count.lines = c.loop-count.invariant.3 c.requires.0
-    in
+    let so = c.loop-count.invariant.3 c.requires.0 in
     let as_long : c.args.limit * (c.args.m + c.args.n) ≤ length c.trace_back.new.strip = omega (arith, c.trace_back.auto.strip, c.requires.6)
     in
     let pre = c.requires in
@@ -82,8 +69,7 @@ add_line-requires c =
 
 pub shape_of-lines-then-not-add_line : goal.shape_of-lines-then-not-add_line
 shape_of-lines-then-not-add_line c =
-    let so : LinesSo c.requires.0.w c.args.m c.args.n c.trace_back.new.strip c.loop-count.count c.loop-count.last c.loop-count.lines = c.loop-count.invariant.3 c.requires.0
-    in
+    let so = c.loop-count.invariant.3 c.requires.0 in
     let same-long : (part : List ℕ)
     → length part ≡ length (take (length c.loop-count.lines - c.loop-count.last) (drop c.loop-count.last c.loop-count.lines))
     → length (put_mid c.loop-count.last (length c.loop-count.lines - c.loop-count.last) c.loop-count.lines part) ≡ length c.args.lines.now = λ part e. same_len_mid c.loop-count.last (length c.loop-count.lines - c.loop-count.last) c.loop-count.lines part e
@@ -107,12 +93,8 @@ returns-then-not-add_line c = λ f.
 
 pub overflow_add-last : goal.overflow_add-last
 overflow_add-last c =
-    let so : LinesSo c.requires.0.w c.args.m c.args.n c.trace_back.new.strip c.loop-count.count c.loop-count.last c.loop-count.lines = c.loop-count.invariant.3 c.requires.0
-    in
-    let as_long : c.args.limit * (c.args.m + c.args.n) ≤ length c.trace_back.new.strip = omega (arith, c.trace_back.auto.strip, c.requires.6)
-    in
-    let one_line : c.loop-count.last + (c.args.m + c.args.n) ≤ length c.loop-count.lines = fits_one c.args.limit so as_long c.loop-count.invariant.0
-    in
+    let so = c.loop-count.invariant.3 c.requires.0 in
+    let one_line = fits_one c.args.limit so (omega (arith, c.trace_back.auto.strip, c.requires.6)) c.loop-count.invariant.0 in
     omega (arith, one_line, so.kept, c.trace_back.auto.strip, c.before)
 
 pub loop-count-preserved : goal.loop-count-preserved
@@ -131,42 +113,26 @@ loop-count-preserved c = (
 
 pub slice_bounds-can_turn-count : goal.slice_bounds-can_turn-count
 slice_bounds-can_turn-count c =
-    let so : LinesSo c.requires.0.w c.args.m c.args.n c.trace_back.new.strip c.loop-count.count c.loop-count.last c.loop-count.lines = c.loop-count.invariant.3 c.requires.0
-    in
-    let as_long : c.args.limit * (c.args.m + c.args.n) ≤ length c.trace_back.new.strip = omega (arith, c.trace_back.auto.strip, c.requires.6)
-    in
-    let one_line : c.loop-count.last + (c.args.m + c.args.n) ≤ length c.loop-count.lines = fits_one c.args.limit so as_long c.loop-count.invariant.0
-    in
+    let so = c.loop-count.invariant.3 c.requires.0 in
+    let one_line = fits_one c.args.limit so (omega (arith, c.trace_back.auto.strip, c.requires.6)) c.loop-count.invariant.0 in
     omega (arith, one_line)
 
 pub slice_bounds-can_turn-start : goal.slice_bounds-can_turn-start
 slice_bounds-can_turn-start c =
-    let so : LinesSo c.requires.0.w c.args.m c.args.n c.trace_back.new.strip c.loop-count.count c.loop-count.last c.loop-count.lines = c.loop-count.invariant.3 c.requires.0
-    in
-    let as_long : c.args.limit * (c.args.m + c.args.n) ≤ length c.trace_back.new.strip = omega (arith, c.trace_back.auto.strip, c.requires.6)
-    in
-    let one_line : c.loop-count.last + (c.args.m + c.args.n) ≤ length c.loop-count.lines = fits_one c.args.limit so as_long c.loop-count.invariant.0
-    in
+    let so = c.loop-count.invariant.3 c.requires.0 in
+    let one_line = fits_one c.args.limit so (omega (arith, c.trace_back.auto.strip, c.requires.6)) c.loop-count.invariant.0 in
     omega (arith, one_line)
 
 pub slice_bounds-can_turn-end : goal.slice_bounds-can_turn-end
 slice_bounds-can_turn-end c =
-    let so : LinesSo c.requires.0.w c.args.m c.args.n c.trace_back.new.strip c.loop-count.count c.loop-count.last c.loop-count.lines = c.loop-count.invariant.3 c.requires.0
-    in
-    let as_long : c.args.limit * (c.args.m + c.args.n) ≤ length c.trace_back.new.strip = omega (arith, c.trace_back.auto.strip, c.requires.6)
-    in
-    let one_line : c.loop-count.last + (c.args.m + c.args.n) ≤ length c.loop-count.lines = fits_one c.args.limit so as_long c.loop-count.invariant.0
-    in
+    let so = c.loop-count.invariant.3 c.requires.0 in
+    let one_line = fits_one c.args.limit so (omega (arith, c.trace_back.auto.strip, c.requires.6)) c.loop-count.invariant.0 in
     omega (arith, one_line)
 
 pub can_turn-requires : goal.can_turn-requires
 can_turn-requires c =
-    let so : LinesSo c.requires.0.w c.args.m c.args.n c.trace_back.new.strip c.loop-count.count c.loop-count.last c.loop-count.lines = c.loop-count.invariant.3 c.requires.0
-    in
-    let as_long : c.args.limit * (c.args.m + c.args.n) ≤ length c.trace_back.new.strip = omega (arith, c.trace_back.auto.strip, c.requires.6)
-    in
-    let one_line : c.loop-count.last + (c.args.m + c.args.n) ≤ length c.loop-count.lines = fits_one c.args.limit so as_long c.loop-count.invariant.0
-    in
+    let so = c.loop-count.invariant.3 c.requires.0 in
+    let one_line = fits_one c.args.limit so (omega (arith, c.trace_back.auto.strip, c.requires.6)) c.loop-count.invariant.0 in
     let pre = c.requires in
     let part = part_lent c.loop-count.last c.loop-count.lines in (
       filled_marked pre.0.filled pre.2 pre.3 (room_same _ pre.0.filled.long pre.4),
@@ -176,8 +142,7 @@ can_turn-requires c =
 
 pub shape_of-lines : goal.shape_of-lines
 shape_of-lines c =
-    let so : LinesSo c.requires.0.w c.args.m c.args.n c.trace_back.new.strip c.loop-count.count c.loop-count.last c.loop-count.lines = c.loop-count.invariant.3 c.requires.0
-    in
+    let so = c.loop-count.invariant.3 c.requires.0 in
     so.kept ∙ c.trace_back.auto.strip
 
 pub returns : goal.returns

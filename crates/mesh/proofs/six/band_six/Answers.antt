@@ -1,7 +1,5 @@
 -- `mesh::six::band_six` meets its contract: what is lent are the band's two traces and its part of the strips. Assumes nothing.
-use Prim.Native.Nat.{◌+◌, ◌≤◌}
 use native.Mathlib.Omega.{arith}
-use lib.ListN.{length}
 use mir.Syntax.{w32}
 use Rattle.whole.proofs.Machine.{fits_holds}
 use Rattle.mesh.proofs.Parts.{part_inside, part_is}
@@ -10,16 +8,12 @@ use Rattle.mesh.proofs.six.band_six.Goals as goal
 
 pub overflow_add-to : goal.overflow_add-to
 overflow_add-to c =
-    let inside : let a = c.args in a.at + (c.layer_at-lower.result.count + c.layer_at-upper.result.count) ≤ length a.strips.now = part_inside c.args.stack c.args.k c.requires.2 c.layer_at-lower.ensures c.layer_at-upper.ensures c.args.strips.now
-    c.requires.1 c.requires.0.strips.long
-    in
+    let inside = part_inside c.args.stack c.args.k c.requires.2 c.layer_at-lower.ensures c.layer_at-upper.ensures c.args.strips.now c.requires.1 c.requires.0.strips.long in
     omega (arith, inside)
 
 pub overflow_add-to-2 : goal.overflow_add-to-2
 overflow_add-to-2 c =
-    let inside : let a = c.args in a.at + (c.layer_at-lower.result.count + c.layer_at-upper.result.count) ≤ length a.strips.now = part_inside c.args.stack c.args.k c.requires.2 c.layer_at-lower.ensures c.layer_at-upper.ensures c.args.strips.now
-    c.requires.1 c.requires.0.strips.long
-    in
+    let inside = part_inside c.args.stack c.args.k c.requires.2 c.layer_at-lower.ensures c.layer_at-upper.ensures c.args.strips.now c.requires.1 c.requires.0.strips.long in
     omega (arith, inside)
 
 pub overflow_sub-upper : goal.overflow_sub-upper
@@ -28,9 +22,7 @@ overflow_sub-upper c =
 
 pub slice_bounds-by_rule-end : goal.slice_bounds-by_rule-end
 slice_bounds-by_rule-end c =
-    let inside : let a = c.args in a.at + (c.layer_at-lower.result.count + c.layer_at-upper.result.count) ≤ length a.strips.now = part_inside c.args.stack c.args.k c.requires.2 c.layer_at-lower.ensures c.layer_at-upper.ensures c.args.strips.now
-    c.requires.1 c.requires.0.strips.long
-    in
+    let inside = part_inside c.args.stack c.args.k c.requires.2 c.layer_at-lower.ensures c.layer_at-upper.ensures c.args.strips.now c.requires.1 c.requires.0.strips.long in
     inside
 
 pub by_rule-requires : goal.by_rule-requires

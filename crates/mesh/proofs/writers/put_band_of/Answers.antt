@@ -1,30 +1,22 @@
 -- `mesh::writers::put_band_of` meets its contract: the part of the strips that is lent is the band's. Assumes nothing.
-use Prim.Native.Nat.{◌+◌, ◌≤◌}
 use native.Mathlib.Omega.{arith}
-use lib.ListN.{length}
 use Rattle.mesh.proofs.Parts.{part_end, part_inside}
 use Rattle.mesh.proofs.ClosedLaws.{band_asked, band_filled}
 use Rattle.mesh.proofs.writers.put_band_of.Goals as goal
 
 pub overflow_add-to : goal.overflow_add-to
 overflow_add-to c =
-    let inside : let a = c.args in a.at + (c.layer_at-lower.result.count + c.layer_at-upper.result.count) ≤ length a.strips.now = part_inside c.args.stack c.args.k c.requires.2 c.layer_at-lower.ensures c.layer_at-upper.ensures c.args.strips.now
-    c.requires.1 c.requires.0.strips.long
-    in
+    let inside = part_inside c.args.stack c.args.k c.requires.2 c.layer_at-lower.ensures c.layer_at-upper.ensures c.args.strips.now c.requires.1 c.requires.0.strips.long in
     omega (arith, inside)
 
 pub overflow_add-to-2 : goal.overflow_add-to-2
 overflow_add-to-2 c =
-    let inside : let a = c.args in a.at + (c.layer_at-lower.result.count + c.layer_at-upper.result.count) ≤ length a.strips.now = part_inside c.args.stack c.args.k c.requires.2 c.layer_at-lower.ensures c.layer_at-upper.ensures c.args.strips.now
-    c.requires.1 c.requires.0.strips.long
-    in
+    let inside = part_inside c.args.stack c.args.k c.requires.2 c.layer_at-lower.ensures c.layer_at-upper.ensures c.args.strips.now c.requires.1 c.requires.0.strips.long in
     omega (arith, inside)
 
 pub slice_bounds-put_band-end : goal.slice_bounds-put_band-end
 slice_bounds-put_band-end c =
-    let inside : let a = c.args in a.at + (c.layer_at-lower.result.count + c.layer_at-upper.result.count) ≤ length a.strips.now = part_inside c.args.stack c.args.k c.requires.2 c.layer_at-lower.ensures c.layer_at-upper.ensures c.args.strips.now
-    c.requires.1 c.requires.0.strips.long
-    in
+    let inside = part_inside c.args.stack c.args.k c.requires.2 c.layer_at-lower.ensures c.layer_at-upper.ensures c.args.strips.now c.requires.1 c.requires.0.strips.long in
     inside
 
 pub put_band-requires : goal.put_band-requires

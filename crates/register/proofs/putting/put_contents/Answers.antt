@@ -1,110 +1,55 @@
 -- `register::putting::put_contents` meets its contract: number of layers, layers and strips, one behind the other. Assumes nothing.
-use mathlib.Core.Path.{◌≡◌, sym, subst}
-use Prim.Native.Nat.{ℕ, ◌+◌, ◌≤◌}
+use mathlib.Core.Path.{sym, subst}
+use Prim.Native.Nat.{ℕ}
 use native.Mathlib.Omega.{arith}
-use lib.ListN.{length, length-take, length-drop}
+use lib.ListN.{length-take, length-drop}
 use Rattle.whole.specs.Filled.{Filled}
-use Rattle.whole.proofs.Filling.{back, back_long}
+use Rattle.whole.proofs.Filling.{back_long}
 use Rattle.blocks.specs.Blocks.{two}
 use Rattle.stack.specs.Laid.{laid}
 use Rattle.stack.proofs.Laying.{laid_long}
-use Rattle.register.specs.Contents.{layers_bytes}
-use Rattle.register.proofs.PutLaws.{long_parts, contents_filled}
+use Rattle.register.proofs.PutLaws.{parts_fit, contents_filled}
 use Rattle.register.proofs.putting.put_contents.Goals as goal
 
 pub put_two-requires : goal.put_two-requires
 put_two-requires c =
-    let room : 2 + length (layers_bytes c.args.coords.now (laid c.args.stack)) + length c.args.strips.now ≤ length c.args.out.now = omega (
-      arith,
-      long_parts c.requires.0.spanned (omega (arith, c.requires.0.layers.two)),
-      c.requires.1.long,
-      c.requires.2,
-    )
-    in
+    let room = parts_fit c.args.out.now c.requires in
     (omega (arith, laid_long c.args.stack, c.requires.0.layers.twenty), omega (arith, room))
 
 pub slice_bounds-put_layers-count : goal.slice_bounds-put_layers-count
 slice_bounds-put_layers-count c =
-    let room : 2 + length (layers_bytes c.args.coords.now (laid c.args.stack)) + length c.args.strips.now ≤ length c.args.out.now = omega (
-      arith,
-      long_parts c.requires.0.spanned (omega (arith, c.requires.0.layers.two)),
-      c.requires.1.long,
-      c.requires.2,
-    )
-    in
+    let room = parts_fit c.args.out.now c.requires in
     omega (arith, room, c.put_two.auto.out)
 
 pub slice_bounds-put_layers-start : goal.slice_bounds-put_layers-start
 slice_bounds-put_layers-start c =
-    let room : 2 + length (layers_bytes c.args.coords.now (laid c.args.stack)) + length c.args.strips.now ≤ length c.args.out.now = omega (
-      arith,
-      long_parts c.requires.0.spanned (omega (arith, c.requires.0.layers.two)),
-      c.requires.1.long,
-      c.requires.2,
-    )
-    in
+    let room = parts_fit c.args.out.now c.requires in
     omega (arith, room, c.put_two.auto.out)
 
 pub put_layers-requires : goal.put_layers-requires
 put_layers-requires c =
-    let room : 2 + length (layers_bytes c.args.coords.now (laid c.args.stack)) + length c.args.strips.now ≤ length c.args.out.now = omega (
-      arith,
-      long_parts c.requires.0.spanned (omega (arith, c.requires.0.layers.two)),
-      c.requires.1.long,
-      c.requires.2,
-    )
-    in
+    let room = parts_fit c.args.out.now c.requires in
     (c.requires.0, simp (length-take, length-drop) (omega (arith, room, c.put_two.auto.out)))
 
 pub overflow_add-at : goal.overflow_add-at
 overflow_add-at c =
-    let room : 2 + length (layers_bytes c.args.coords.now (laid c.args.stack)) + length c.args.strips.now ≤ length c.args.out.now = omega (
-      arith,
-      long_parts c.requires.0.spanned (omega (arith, c.requires.0.layers.two)),
-      c.requires.1.long,
-      c.requires.2,
-    )
-    in
+    let room = parts_fit c.args.out.now c.requires in
     omega (arith, room, c.put_layers.ensures.0)
 
 pub slice_bounds-put_bytes-count : goal.slice_bounds-put_bytes-count
 slice_bounds-put_bytes-count c =
-    let room : 2 + length (layers_bytes c.args.coords.now (laid c.args.stack)) + length c.args.strips.now ≤ length c.args.out.now = omega (
-      arith,
-      long_parts c.requires.0.spanned (omega (arith, c.requires.0.layers.two)),
-      c.requires.1.long,
-      c.requires.2,
-    )
-    in
-    let still : length (back 2 c.put_two.new.out c.put_layers.new.out) ≡ length c.args.out.now = omega (arith, back_long 2 c.put_two.new.out c.put_layers.new.out c.put_layers.auto.out, c.put_two.auto.out)
-    in
-    omega (arith, room, c.put_layers.ensures.0, still)
+    let room = parts_fit c.args.out.now c.requires in
+    omega (arith, room, c.put_layers.ensures.0, back_long 2 c.put_two.new.out c.put_layers.new.out c.put_layers.auto.out, c.put_two.auto.out)
 
 pub slice_bounds-put_bytes-start : goal.slice_bounds-put_bytes-start
 slice_bounds-put_bytes-start c =
-    let room : 2 + length (layers_bytes c.args.coords.now (laid c.args.stack)) + length c.args.strips.now ≤ length c.args.out.now = omega (
-      arith,
-      long_parts c.requires.0.spanned (omega (arith, c.requires.0.layers.two)),
-      c.requires.1.long,
-      c.requires.2,
-    )
-    in
-    let still : length (back 2 c.put_two.new.out c.put_layers.new.out) ≡ length c.args.out.now = omega (arith, back_long 2 c.put_two.new.out c.put_layers.new.out c.put_layers.auto.out, c.put_two.auto.out)
-    in
-    omega (arith, room, c.put_layers.ensures.0, still)
+    let room = parts_fit c.args.out.now c.requires in
+    omega (arith, room, c.put_layers.ensures.0, back_long 2 c.put_two.new.out c.put_layers.new.out c.put_layers.auto.out, c.put_two.auto.out)
 
 pub put_bytes-requires : goal.put_bytes-requires
 put_bytes-requires c =
-    let room : 2 + length (layers_bytes c.args.coords.now (laid c.args.stack)) + length c.args.strips.now ≤ length c.args.out.now = omega (
-      arith,
-      long_parts c.requires.0.spanned (omega (arith, c.requires.0.layers.two)),
-      c.requires.1.long,
-      c.requires.2,
-    )
-    in
-    let still : length (back 2 c.put_two.new.out c.put_layers.new.out) ≡ length c.args.out.now = omega (arith, back_long 2 c.put_two.new.out c.put_layers.new.out c.put_layers.auto.out, c.put_two.auto.out)
-    in
-    simp (length-take, length-drop) (omega (arith, room, c.put_layers.ensures.0, still))
+    let room = parts_fit c.args.out.now c.requires in
+    simp (length-take, length-drop) (omega (arith, room, c.put_layers.ensures.0, back_long 2 c.put_two.new.out c.put_layers.new.out c.put_layers.auto.out, c.put_two.auto.out))
 
 pub returns : goal.returns
 returns c =
