@@ -1,7 +1,7 @@
 #!/usr/bin/env python3
 """Brings the repository's own definitions, lemmas and fields to snake case, after port.py and before any edit by hand.
 
-usage: python3 tools/port_names.py [--dry]    at the top of a checkout in which /opt/rattle/port/port.py has run
+usage: python3 tools/port_names.py [--dry]    at the top of a checkout in which the kit's port.py has run
 
 A name that a crate's specs/ or proofs/ declares is respelled, there and in the clauses of src/, in must-fail edits and in pages: a dash
 and a hump become an underscore (`sum-within`, `twiceArea` to `sum_within`, `twice_area`), `getD` becomes `get_or` as in the library.
