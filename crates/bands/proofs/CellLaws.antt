@@ -1,18 +1,15 @@
 -- Work bytes: the most that the bands need, counted from the bottom up, is the most of all; and what one band zeroes after another
 -- is the front of the most that any of them needs. By recursion along the lists. Assumes nothing.
-use mathlib.Core.Path.{◌≡◌, refl, sym, ap, ap₂, ◌∙◌}
+use mathlib.Core.Path.{◌≡◌, refl, sym, ap, ◌∙◌}
 use mathlib.Core.List.{List, [], ◌∷◌, ◌++◌}
 use Prim.Native.Nat.{ℕ, zero, suc, ◌+◌, ◌-◌, ◌*◌, ◌≤◌, ◌<◌, max}
 use native.Mathlib.Nat.{zero-max, max-zero, suc-max-suc, mul-le-mul}
 use native.Mathlib.Omega.{arith}
 use lib.ListN.{length, drop, replicate, length-append, length-drop, length-replicate}
 use Rattle.stack.specs.declared.Layer.{Layer}
-use Rattle.stack.specs.declared.Stack.{Stack}
 use Rattle.stack.specs.Entries.{entry}
-use Rattle.stack.specs.Laid.{laid}
-use Rattle.stack.proofs.Laying.{count_at, count_above}
 use Rattle.bands.specs.Bands.{most_cells}
-use Rattle.bands.specs.Filling.{cells, cells_to, Sized}
+use Rattle.bands.specs.Filling.{cells, cells_to}
 
 -- ---- the most
 
@@ -66,22 +63,8 @@ cells_within es k h = under (cells_to es k) (cells es k) (cells_below es (suc k)
 -- ---- as the machine works it out
 
 -- 251 by 251 at most
-product_within : (m n : ℕ) → m ≤ 251 → n ≤ 251 → m * n ≤ 63001
+pub product_within : (m n : ℕ) → m ≤ 251 → n ≤ 251 → m * n ≤ 63001
 product_within m n h g = omega (arith, mul-le-mul h g)
-
-module _ {st : Stack} {k : ℕ} {d e : Layer} (s : Sized st) (h : suc k < st.count) (p : d ≡ entry (laid st) k)
-    (q : e ≡ entry (laid st) (k + 1)) where
-  pub counts_small : (d.count ≤ 250) × (e.count ≤ 250)
-  counts_small = (
-    omega (arith, count_at (laid st) k p, s.many k (omega arith)),
-    omega (arith, count_above (laid st) k q, s.many (suc k) h),
-  )
-
-  pub cells_small : (d.count + 1) * (e.count + 1) ≤ 63001
-  cells_small = product_within (d.count + 1) (e.count + 1) (omega (arith, counts_small)) (omega (arith, counts_small))
-
-  pub cells_are : (d.count + 1) * (e.count + 1) ≡ cells (laid st) k
-  cells_are = ap₂ (λ (m n : ℕ). (m + 1) * (n + 1)) (count_at (laid st) k p) (count_above (laid st) k q)
 
 -- ---- the bytes
 

@@ -11,6 +11,7 @@ use native.Mathlib.Omega.{arith}
 use lib.IntN.{ℤ}
 use lib.ListN.{length, take, drop}
 use lib.Seq.{take_all, take-add}
+use Rattle.std.specs.Prelude.{Result, Err}
 use Rattle.fault.specs.declared.Refusal.{Refusal}
 use Rattle.trace.specs.Points.{count}
 use Rattle.ways.specs.Keppel.{traced}
@@ -27,8 +28,6 @@ use Rattle.stack.specs.Strips.{band_part, StripsRight}
 use Rattle.fault.proofs.GateLaws.{due_single, holds, one_stop, stopped_not_passed}
 use Rattle.stack.proofs.Cases.{stack_single, stack_open}
 use Rattle.stack.proofs.StackLaws.{band_all}
-use Rattle.bands.specs.declared.Banded.{Banded}
-use Rattle.bands.specs.declared.Banded.TheVariants as bands-are
 use Rattle.bands.specs.Bands.{BandBest, AllBest, bands_gates, BandsAnswer, refused, best}
 use Rattle.bands.proofs.FillLaws.{band_strip, long_more, best_more}
 
@@ -83,10 +82,10 @@ module _ {es : List Layer} {c : List ℤ} (a : AcceptedStack es c) where
 -- ---- the outcomes
 
 module _ {es : List Layer} {c : List ℤ} {strips work : List ℕ} where
-  pub bands_unique : {r r' : Banded} {s s' w w' : List ℕ} → BandsAnswer es c strips work s w r → BandsAnswer es c strips work s' w' r'
+  pub bands_unique : {r r' : Result ℕ Refusal} {s s' w w' : List ℕ} → BandsAnswer es c strips work s w r → BandsAnswer es c strips work s' w' r'
       → Same r r' s s' w w'
   bands_unique (refused {r = r} x) (refused {r = q} y) = record {
-    answer = ap bands-are.Refused (one_stop (bands_gates es c strips work) (stack_single, (due_single, tt)) r q x y);
+    answer = ap Err (one_stop (bands_gates es c strips work) (stack_single, (due_single, tt)) r q x y);
     strips = refl;
     works = refl;
   }
@@ -98,6 +97,6 @@ module _ {es : List Layer} {c : List ℤ} {strips work : List ℕ} where
     works = refl;
   }
 
-  pub bands_refused_untouched : {r : Refusal} {s w : List ℕ} → BandsAnswer es c strips work s w (bands-are.Refused r)
+  pub bands_refused_untouched : {r : Refusal} {s w : List ℕ} → BandsAnswer es c strips work s w (Err r)
       → Untouched strips work s w
   bands_refused_untouched (refused _) = record { strip_same = refl; work_same = refl }

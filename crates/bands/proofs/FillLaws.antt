@@ -14,7 +14,8 @@ use Rattle.whole.proofs.Parts.{part_lent, part_back}
 use Rattle.trace.specs.Points.{count}
 use Rattle.strip.specs.Pair.{Pair}
 use Rattle.ways.specs.Strip.{Step}
-use Rattle.strip.specs.declared.Valued.{Valued}
+use Rattle.std.specs.Prelude.{Result, IsOk}
+use Rattle.fault.specs.declared.Refusal.{Refusal}
 use Rattle.strip.specs.Bytes.{bytes, IsStrip}
 use Rattle.strip.proofs.BytesLaws.{is_strip_length}
 use Rattle.joining.specs.Answers.{FirstOf, Enough, Given, Cleared, best_gates, BestAnswer}
@@ -22,13 +23,11 @@ use Rattle.joining.proofs.BestCases.{best_passed}
 use Rattle.fault.proofs.GateLaws.{stopped_not_passed}
 use Rattle.joining.specs.Answers as best-is
 use Rattle.stack.specs.declared.Layer.{Layer}
-use Rattle.stack.specs.declared.Stack.{Stack}
-use Rattle.stack.specs.Entries.{entry, trace_of, steps, band_start}
+use Rattle.stack.specs.declared.Band.{Band}
+use Rattle.stack.specs.Entries.{entry, band_at, trace_of, steps, band_start}
 use Rattle.stack.specs.Faults.{AcceptedStack}
 use Rattle.stack.specs.Strips.{band_part}
-use Rattle.stack.specs.Laid.{laid}
-use Rattle.stack.proofs.StackLaws.{accepted_points, accepted_pair, accepted_count, band_within, band_all}
-use Rattle.stack.proofs.Laying.{laid_long, count_at, count_above}
+use Rattle.stack.proofs.StackLaws.{accepted_points, accepted_pair, accepted_count, lower_is, upper_is, lower_count, upper_count, band_within, band_all}
 use Rattle.bands.specs.Bands.{EnoughRoom, BandBest}
 use Rattle.bands.specs.Filling.{cells, cells_to, BandReady, BandFilled, BandsFilled}
 use Rattle.bands.proofs.CellLaws.{cells_all, cells_below, cells_within, zeroed, zeroed_twice, zeroed_length}
@@ -49,55 +48,60 @@ pub record Put (a b : List ℤ) (part work part' work' : List ℕ) : Type 0 wher
   pub given : Given a b strip part part'
   pub cleared : Cleared a b work work'
 
-put_best : {a b : List ℤ} {part work part' work' : List ℕ} {r : Valued} → Pair a b → Enough a b part work
+put_best : {a b : List ℤ} {part work part' work' : List ℕ} {r : Result ℤ Refusal} → Pair a b → Enough a b part work
     → BestAnswer a b part work part' work' r → Put a b part work part' work'
-put_best {a} {b} {part} {work} p e (best-is.BestAnswer.refused {r = r} x _) = absurd (stopped_not_passed (best_gates a b part work) r x (best_passed p e))
+put_best {a} {b} {part} {work} p e (best-is.BestAnswer.refused {r = r} x _) =
+    absurd (stopped_not_passed (best_gates a b part work) r x (best_passed p e))
 put_best p e (best-is.BestAnswer.best _ s f g c) = record { strip = s; first = f; given = g; cleared = c }
 
-module _ {st : Stack} {c : List ℤ} {k : ℕ} {part work : List ℕ} (y : BandReady st c k part work) where
-  inside : suc k < length (laid st)
-  inside = omega (arith, laid_long st, y.band)
+ok_best : {a b : List ℤ} {part work part' work' : List ℕ} {r : Result ℤ Refusal} → Pair a b → Enough a b part work
+    → BestAnswer a b part work part' work' r → IsOk r
+ok_best {a} {b} {part} {work} p e (best-is.BestAnswer.refused {r = r} x _) =
+    absurd (stopped_not_passed (best_gates a b part work) r x (best_passed p e))
+ok_best p e (best-is.BestAnswer.best _ s f g c) = refl
 
-  lower_count : count (trace_of c (entry (laid st) k)) ≡ (entry (laid st) k).count
-  lower_count = accepted_points y.stack k (omega (arith, inside))
+module _ {es : List Layer} {c : List ℤ} {k : ℕ} {part work : List ℕ} (y : BandReady es c k part work) where
+  lower_points : count (trace_of c (entry es k)) ≡ (entry es k).count
+  lower_points = accepted_points y.stack k (omega (arith, y.band))
 
-  upper_count : count (trace_of c (entry (laid st) (suc k))) ≡ (entry (laid st) (suc k)).count
-  upper_count = accepted_points y.stack (suc k) inside
+  upper_points : count (trace_of c (entry es (suc k))) ≡ (entry es (suc k)).count
+  upper_points = accepted_points y.stack (suc k) y.band
 
-  enough : Enough (trace_of c (entry (laid st) k)) (trace_of c (entry (laid st) (suc k))) part work
-  enough = record { for_strip = rw (lower_count, upper_count) y.for_part; for_work = rw (lower_count, upper_count) y.for_work }
+  enough : Enough (trace_of c (entry es k)) (trace_of c (entry es (suc k))) part work
+  enough = record { for_strip = rw (lower_points, upper_points) y.for_part; for_work = rw (lower_points, upper_points) y.for_work }
 
-  module _ {d e : Layer} (p : d ≡ entry (laid st) k) (q : e ≡ entry (laid st) (k + 1)) where
-    upper : e ≡ entry (laid st) (suc k)
-    upper = q ∙ ap (entry (laid st)) (add-one k)
-
-    pub band_small : d.count + e.count ≤ 500
+  module _ {b : Band} (p : b ≡ band_at es k) where
+    pub band_small : b.lower.count + b.upper.count ≤ 500
     band_small = omega (
       arith,
-      count_at (laid st) k p,
-      count_above (laid st) k q,
-      (accepted_count y.stack k (omega (arith, inside))).many,
-      (accepted_count y.stack (suc k) inside).many,
+      lower_count es k p,
+      upper_count es k p,
+      (accepted_count y.stack k (omega (arith, y.band))).many,
+      (accepted_count y.stack (suc k) y.band).many,
     )
 
-    -- between what was lent as the two traces
-    pub band_filled : {a b : List ℤ} {part' work' : List ℕ} {r : Valued} → a ≡ trace_of c d → b ≡ trace_of c e
-        → BestAnswer a b part work part' work' r → BandFilled (laid st) c k part work part' work' (d.count + e.count)
-    band_filled {part' = part'} {work' = work'} {r = r} ea eb x =
-        let answer : BestAnswer (trace_of c (entry (laid st) k)) (trace_of c (entry (laid st) (suc k))) part work part' work' r =
-        rw (ea ∙ ap (trace_of c) p, eb ∙ ap (trace_of c) upper) at x in
-        let w = put_best (accepted_pair y.stack k inside) enough answer in
-        let n : d.count + e.count ≡ (entry (laid st) k).count + (entry (laid st) (suc k)).count =
-        ap₂ ◌+◌ (count_at (laid st) k p) (count_above (laid st) k q) in
-        record {
-          steps = n;
-          strip = w.strip;
-          first = w.first;
-          front = w.given.front
-              ∙ ap (λ (m : ℕ). bytes w.strip ++ drop m part) (ap₂ ◌+◌ lower_count upper_count ∙ sym n);
-          zeros = w.cleared.zeros
-              ∙ ap₂ (λ (m n : ℕ). zeroed ((m + 1) * (n + 1)) work) lower_count upper_count;
-        }
+    module _ {x z : List ℤ} {part' work' : List ℕ} {r : Result ℤ Refusal} (ex : x ≡ trace_of c b.lower) (ez : z ≡ trace_of c b.upper)
+        (g : BestAnswer x z part work part' work' r) where
+      -- what was lent are the two traces
+      answer : BestAnswer (trace_of c (entry es k)) (trace_of c (entry es (suc k))) part work part' work' r
+      answer = rw (ex ∙ ap (trace_of c) (lower_is es k p), ez ∙ ap (trace_of c) (upper_is es k p)) at g
+
+      pub band_ok : IsOk r
+      band_ok = ok_best (accepted_pair y.stack k y.band) enough answer
+
+      pub band_filled : {n : ℕ} → n ≡ b.lower.count + b.upper.count → BandFilled es c k part work part' work' n
+      band_filled {n} e =
+          let w = put_best (accepted_pair y.stack k y.band) enough answer in
+          let steps : n ≡ (entry es k).count + (entry es (suc k)).count = e ∙ ap₂ ◌+◌ (lower_count es k p) (upper_count es k p) in
+          record {
+            steps = steps;
+            strip = w.strip;
+            first = w.first;
+            front = w.given.front
+                ∙ ap (λ (m : ℕ). bytes w.strip ++ drop m part) (ap₂ ◌+◌ lower_points upper_points ∙ sym steps);
+            zeros = w.cleared.zeros
+                ∙ ap₂ (λ (m n : ℕ). zeroed ((m + 1) * (n + 1)) work) lower_points upper_points;
+          }
 
 -- ---- the parts of the bands
 

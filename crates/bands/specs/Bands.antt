@@ -2,7 +2,7 @@
 -- for all bands the steps of all of them, and work bytes for the band that needs most. "After success the strip's bytes stand at the
 -- front, the rest of that slice is as before, and the used work bytes are zero." Refusals in 01's order: 11, 1, 12, trace by trace 2 to
 -- 6, 7, 8.
-use Rattle.std.specs.Prelude.{◌≡◌, List, [], ◌∷◌, ◌++◌, ℕ, suc, ◌+◌, ◌*◌, ◌≤◌, ◌<◌, max, ℤ, length, drop, replicate}
+use Rattle.std.specs.Prelude.{◌≡◌, List, [], ◌∷◌, ◌++◌, ℕ, suc, ◌+◌, ◌*◌, ◌≤◌, ◌<◌, max, ℤ, length, drop, replicate, Result, Ok, Err}
 use Rattle.fault.specs.declared.Refusal.{Refusal}
 use Rattle.fault.specs.declared.Fault.TheVariants.{Room}
 use Rattle.fault.specs.Gates.{Gate, unless, Stopped}
@@ -13,8 +13,6 @@ use Rattle.stack.specs.declared.Layer.{Layer}
 use Rattle.stack.specs.Entries.{entry, trace_of, steps}
 use Rattle.stack.specs.Faults.{AcceptedStack, stack_gates}
 use Rattle.stack.specs.Strips.{band_part}
-use Rattle.bands.specs.declared.Banded.{Banded}
-use Rattle.bands.specs.declared.Banded.TheVariants as bands-are
 
 -- the work bytes of the band that needs most
 unfoldable pub most_cells : List Layer → ℕ
@@ -40,8 +38,8 @@ pub record AllBest (es : List Layer) (c : List ℤ) (l : List ℕ) : Type 0 wher
 abbrev pub bands_gates : List Layer → List ℤ → List ℕ → List ℕ → List Gate
 bands_gates es c strips work = Stopped (stack_gates es c) ∷ unless Room (EnoughRoom es strips work) ∷ []
 
-pub data BandsAnswer (es : List Layer) (c : List ℤ) (strips work : List ℕ) : List ℕ → List ℕ → Banded → Type 0 where
-  refused : {r : Refusal} → Stopped (bands_gates es c strips work) r → BandsAnswer es c strips work strips work (bands-are.Refused r)
+pub data BandsAnswer (es : List Layer) (c : List ℤ) (strips work : List ℕ) : List ℕ → List ℕ → Result ℕ Refusal → Type 0 where
+  refused : {r : Refusal} → Stopped (bands_gates es c strips work) r → BandsAnswer es c strips work strips work (Err r)
   best : AcceptedStack es c → EnoughRoom es strips work → (l : List ℕ) → AllBest es c l
       → BandsAnswer es c strips work (l ++ drop (steps es) strips) (replicate (most_cells es) 0 ++ drop (most_cells es) work)
-      (bands-are.Steps (steps es))
+      (Ok (steps es))

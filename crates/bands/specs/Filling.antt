@@ -4,10 +4,8 @@ use Rattle.ways.specs.Strip.{Step}
 use Rattle.strip.specs.Bytes.{bytes}
 use Rattle.joining.specs.Answers.{FirstOf}
 use Rattle.stack.specs.declared.Layer.{Layer}
-use Rattle.stack.specs.declared.Stack.{Stack}
 use Rattle.stack.specs.Entries.{entry, trace_of, steps}
 use Rattle.stack.specs.Faults.{AcceptedStack}
-use Rattle.stack.specs.Laid.{laid}
 use Rattle.bands.specs.Bands.{most_cells, AllBest}
 
 -- the work bytes of band k, and the most that a band below band k needs
@@ -19,16 +17,15 @@ cells_to es zero = 0
 cells_to es (suc k) = max (cells_to es k) (cells es k)
 
 -- a stack whose work bytes can be counted
-pub record Sized (st : Stack) : Type 0 where
-  pub twenty : st.count ≤ 20
-  pub many : (k : ℕ) → k < st.count → (entry (laid st) k).count ≤ 250
+pub record Sized (es : List Layer) : Type 0 where
+  pub many : (k : ℕ) → k < length es → (entry es k).count ≤ 250
 
 -- what the strip of band k asks
-pub record BandReady (st : Stack) (c : List ℤ) (k : ℕ) (part work : List ℕ) : Type 0 where
-  pub stack : AcceptedStack (laid st) c
-  pub band : suc k < st.count
-  pub for_part : (entry (laid st) k).count + (entry (laid st) (suc k)).count ≤ length part
-  pub for_work : cells (laid st) k ≤ length work
+pub record BandReady (es : List Layer) (c : List ℤ) (k : ℕ) (part work : List ℕ) : Type 0 where
+  pub stack : AcceptedStack es c
+  pub band : suc k < length es
+  pub for_part : (entry es k).count + (entry es (suc k)).count ≤ length part
+  pub for_work : cells es k ≤ length work
 
 -- and does, in n steps
 pub record BandFilled (es : List Layer) (c : List ℤ) (k : ℕ) (part work part' work' : List ℕ) (n : ℕ) : Type 0 where

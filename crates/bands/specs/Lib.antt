@@ -1,4 +1,3 @@
 -- The first best strip of every band of a stack.
 pub mod Bands
-pub mod Status
 pub mod Filling

@@ -1,18 +1,20 @@
 -- The refusals of `judge_blocks` and `seal`, from facts about the file, the contents and the room; and the blocks as one gate for callers.
 -- Assumes nothing.
+use Rattle.std.specs.Prelude.{Err}
 use mathlib.Core.Path.{◌≡◌, refl, subst}
+use mathlib.Core.Bool.{true, false}
 use mathlib.Core.Logic.{inl, inr}
 use mathlib.Core.List.{List}
 use Prim.Native.Nat.{ℕ, ◌*◌, ◌/◌, ◌≤◌, ◌<◌}
 use native.Mathlib.Omega.{arith}
 use lib.ListN.{length}
 use Rattle.whole.specs.Lowest.{Lowest}
+use Rattle.whole.specs.Tells.{Tells}
+use Rattle.whole.proofs.Telling.{told_not}
 use Rattle.fault.specs.declared.Refusal.{Refusal}
 use Rattle.fault.specs.declared.Fault.TheVariants.{Block, Check, Room}
 use Rattle.fault.specs.Gates.{at, Open, Stopped, Passed}
 use Rattle.fault.proofs.GateLaws.{Single, due_single, holds, placed, placed_single, none_placed, one_stop, stopped_not_passed}
-use Rattle.blocks.specs.declared.BlocksJudgement.TheVariants as blocks-are
-use Rattle.blocks.specs.declared.Sealing.TheVariants as sealing-is
 use Rattle.blocks.specs.Blocks.{blocks_for}
 use Rattle.blocks.specs.Faults.{WholeBlocks, CheckFault, Sound, blocks_gates, BlocksJudged, seal_gates, SealAnswer}
 use Rattle.blocks.specs.Faults as answers
@@ -28,10 +30,10 @@ module _ {f : List ℕ} where
   as_counted : {n : ℕ} → WholeBlocks f n → WholeBlocks f (length f / 512)
   as_counted w = subst (WholeBlocks f) (counted w) w
 
-  pub block : ((n : ℕ) → WholeBlocks f n → ⊥) → BlocksJudged f (blocks-are.Refused (at Block 0))
+  pub block : ((n : ℕ) → WholeBlocks f n → ⊥) → BlocksJudged f (Err (at Block 0))
   block n = answers.BlocksJudged.refused (inl (refl, n (length f / 512)))
 
-  pub check : {n b : ℕ} → WholeBlocks f n → Lowest (CheckFault f) n b → BlocksJudged f (blocks-are.Refused (at Check b))
+  pub check : {n b : ℕ} → WholeBlocks f n → Lowest (CheckFault f) n b → BlocksJudged f (Err (at Check b))
   check {b = b} w l =
       answers.BlocksJudged.refused (inr (holds (as_counted w), inl (placed (subst (λ (k : ℕ). Lowest (CheckFault f) k b) (counted w) l))))
 
@@ -44,13 +46,13 @@ module _ {f : List ℕ} where
   pub blocks_open : {n : ℕ} → Sound f n → Open (Stopped (blocks_gates f))
   blocks_open s r x = stopped_not_passed (blocks_gates f) r x (sound_passes s)
 
-  pub blocks_stopped : {r : Refusal} → BlocksJudged f (blocks-are.Refused r) → Stopped (blocks_gates f) r
+  pub blocks_stopped : {r : Refusal} → BlocksJudged f (Err r) → Stopped (blocks_gates f) r
   blocks_stopped (answers.BlocksJudged.refused x) = x
 
 module _ {l out : List ℕ} where
-  pub no_blocks : (1 ≤ blocks_for (length l) → blocks_for (length l) ≤ 98 → ⊥) → SealAnswer l out out (sealing-is.Refused (at Block 0))
+  pub no_blocks : (1 ≤ blocks_for (length l) → blocks_for (length l) ≤ 98 → ⊥) → SealAnswer l out out (Err (at Block 0))
   no_blocks n = answers.SealAnswer.refused (inl (refl, λ h. n h.0 h.1))
 
   pub room : 1 ≤ blocks_for (length l) → blocks_for (length l) ≤ 98 → length out < 512 * blocks_for (length l)
-      → SealAnswer l out out (sealing-is.Refused (at Room 0))
+      → SealAnswer l out out (Err (at Room 0))
   room a b h = answers.SealAnswer.refused (inr (holds (a, b), inl (refl, λ k. omega arith)))

@@ -1,5 +1,6 @@
 -- What the check finds. A byte of a sound file changed, two unequal bytes of one block's contents exchanged, or two blocks: the file
 -- is sound no more, and is refused with CHECK at the lowest block that was touched. Assumes nothing.
+use Rattle.std.specs.Prelude.{Result, Ok, Err}
 use mathlib.Core.Path.{◌≡◌, sym, ap, ap₂, ◌∙◌, subst}
 use mathlib.Core.Logic.{◌⊎◌, inl, inr}
 use mathlib.Core.List.{List}
@@ -7,10 +8,10 @@ use Prim.Native.Nat.{ℕ, suc, ◌+◌, ◌*◌, ◌-◌, ◌/◌, ◌%◌, ◌�
 use native.Mathlib.Omega.{arith}
 use lib.ListN.{length, get_or, take, drop, set, length-set}
 use lib.Seq.{set_comm, get_or-drop}
+use Rattle.fault.specs.declared.Refusal.{Refusal}
 use Rattle.fault.specs.declared.Fault.TheVariants.{Check}
 use Rattle.fault.specs.Gates.{at}
 use Rattle.whole.specs.Lowest.{Lowest}
-use Rattle.blocks.specs.declared.BlocksJudgement.TheVariants as blocks-are
 use Rattle.blocks.specs.Blocks.{check_of, two, tail_of, block_at, contents_at}
 use Rattle.blocks.specs.Exchanged.{exchanged, with_block, exchanged_blocks}
 use Rattle.blocks.specs.Faults.{WholeBlocks, CheckFault, Sound, BlocksJudged, sound}
@@ -25,7 +26,7 @@ use Rattle.blocks.proofs.BlockLaws.{block_at_lem, block_past, block_set, block_b
 
 -- a file that has the blocks of a sound one below b, and a wrong block b, is refused with CHECK at b
 refused_at : {f g : List ℕ} {n b : ℕ} → Sound f n → length g ≡ length f → b < n → ((c : ℕ) → c < b → block_at g c ≡ block_at f c)
-    → (Right b (block_at g b) → ⊥) → BlocksJudged g (blocks-are.Refused (at Check b))
+    → (Right b (block_at g b) → ⊥) → BlocksJudged g (Err (at Check b))
 refused_at {f} {g} {n} {b} s e h same wrong = check whole lowest
   where
     whole : WholeBlocks g n
@@ -39,10 +40,10 @@ refused_at {f} {g} {n} {b} s e h same wrong = check whole lowest
     }
 
 -- what is refused is not sound
-not_sound : {g : List ℕ} {b : ℕ} → BlocksJudged g (blocks-are.Refused (at Check b)) → (m : ℕ) → Sound g m → ⊥
+not_sound : {g : List ℕ} {b : ℕ} → BlocksJudged g (Err (at Check b)) → (m : ℕ) → Sound g m → ⊥
 not_sound {b = b} j m s = other (judged_unique (sound s) j)
   where
-    other : blocks-are.Sound m ≡ blocks-are.Refused (at Check b) → ⊥
+    other : ◌≡◌ {A = Result ℕ Refusal} (Ok m) (Err (at Check b)) → ⊥
     other e = let z : ◌≡◌ {A = ℕ} 0 1 = cc in omega arith
 
 -- ---- what is stored
@@ -65,7 +66,7 @@ stored_check {f} s b h =
 module _ {f : List ℕ} {n : ℕ} (s : Sound f n) (i v : ℕ) (inside : i < length f) (old : get_or f i 0 < 256) (new : v < 256)
     (changed : v ≡ get_or f i 0 → ⊥) where
   -- a sound file with one byte changed is refused with CHECK at that byte's block
-  pub one_byte_refused : BlocksJudged (set f i v) (blocks-are.Refused (at Check (i / 512)))
+  pub one_byte_refused : BlocksJudged (set f i v) (Err (at Check (i / 512)))
   one_byte_refused =
       refused_at s (length-set f i v) (omega (arith, s.blocks.whole)) (λ c h. block_before f c i v h) wrong
     where
@@ -120,7 +121,7 @@ exchanged_long f i j = length-set (set f i (get_or f j 0)) j (get_or f i 0) ∙ 
 -- the first of the two stands before the other
 exchanged_refused : {f : List ℕ} {n : ℕ} → Sound f n → (i j : ℕ) → i < j → i / 512 ≡ j / 512 → j % 512 < 508 → i < length f
     → get_or f i 0 < 256 → get_or f j 0 < 256 → (get_or f i 0 ≡ get_or f j 0 → ⊥)
-    → BlocksJudged (exchanged f i j) (blocks-are.Refused (at Check (i / 512)))
+    → BlocksJudged (exchanged f i j) (Err (at Check (i / 512)))
 exchanged_refused {f} s i j h same cj inside hx hy n≢ =
     refused_at s (exchanged_long f i j) (omega (arith, s.blocks.whole))
     (λ c l. exchanged_before f i j c l (omega arith))
@@ -140,7 +141,7 @@ exchanged_refused {f} s i j h same cj inside hx hy n≢ =
 module _ {f : List ℕ} {n : ℕ} (s : Sound f n) (i j : ℕ) (same : i / 512 ≡ j / 512) (ci : i % 512 < 508) (cj : j % 512 < 508)
     (inside : i < length f) (hx : get_or f i 0 < 256) (hy : get_or f j 0 < 256) (unequal : get_or f i 0 ≡ get_or f j 0 → ⊥) where
   -- a sound file with two unequal bytes of one block's contents exchanged is refused with CHECK at that block
-  pub two_bytes_refused : BlocksJudged (exchanged f i j) (blocks-are.Refused (at Check (i / 512)))
+  pub two_bytes_refused : BlocksJudged (exchanged f i j) (Err (at Check (i / 512)))
   two_bytes_refused = go (less_or_not i j)
     where
       apart : i ≡ j → ⊥
@@ -152,11 +153,11 @@ module _ {f : List ℕ} {n : ℕ} (s : Sound f n) (i j : ℕ) (same : i / 512 �
       less : j ≤ i → j < i
       less h = let n : i ≡ j → ⊥ = apart in omega arith
 
-      go : (i < j) ⊎ (j ≤ i) → BlocksJudged (exchanged f i j) (blocks-are.Refused (at Check (i / 512)))
+      go : (i < j) ⊎ (j ≤ i) → BlocksJudged (exchanged f i j) (Err (at Check (i / 512)))
       go (inl h) = exchanged_refused s i j h same cj inside hx hy unequal
       go (inr h) =
-          subst (λ (b : ℕ). BlocksJudged (exchanged f i j) (blocks-are.Refused (at Check b))) (sym same)
-          (subst (λ (l : List ℕ). BlocksJudged l (blocks-are.Refused (at Check (j / 512)))) (exchanged_turned f i j apart)
+          subst (λ (b : ℕ). BlocksJudged (exchanged f i j) (Err (at Check b))) (sym same)
+          (subst (λ (l : List ℕ). BlocksJudged l (Err (at Check (j / 512)))) (exchanged_turned f i j apart)
           (exchanged_refused s j i (less h) (sym same) ci below hy hx (λ e. unequal (sym e))))
 
   -- a sound file with two unequal bytes of one block's contents exchanged is not sound
@@ -211,17 +212,17 @@ module _ {f : List ℕ} {n : ℕ} (s : Sound f n) (b c : ℕ) (hb : b < n) (hc :
   few d h = omega (arith, s.blocks.few)
 
   -- a sound file with two of its blocks exchanged is refused with CHECK at the lower place, even if the contents are the same
-  pub two_blocks_refused : BlocksJudged (exchanged_blocks f b c) (blocks-are.Refused (at Check (min b c)))
+  pub two_blocks_refused : BlocksJudged (exchanged_blocks f b c) (Err (at Check (min b c)))
   two_blocks_refused = go (less_or_not b c)
     where
       lower : c ≤ b → c < b
       lower h = let n : b ≡ c → ⊥ = apart in omega arith
 
-      lower_one : {d : ℕ} → d ≡ min b c → BlocksJudged (exchanged_blocks f b c) (blocks-are.Refused (at Check d))
-          → BlocksJudged (exchanged_blocks f b c) (blocks-are.Refused (at Check (min b c)))
-      lower_one e j = subst (λ (d : ℕ). BlocksJudged (exchanged_blocks f b c) (blocks-are.Refused (at Check d))) e j
+      lower_one : {d : ℕ} → d ≡ min b c → BlocksJudged (exchanged_blocks f b c) (Err (at Check d))
+          → BlocksJudged (exchanged_blocks f b c) (Err (at Check (min b c)))
+      lower_one e j = subst (λ (d : ℕ). BlocksJudged (exchanged_blocks f b c) (Err (at Check d))) e j
 
-      go : (b < c) ⊎ (c ≤ b) → BlocksJudged (exchanged_blocks f b c) (blocks-are.Refused (at Check (min b c)))
+      go : (b < c) ⊎ (c ≤ b) → BlocksJudged (exchanged_blocks f b c) (Err (at Check (min b c)))
       go (inl h) =
           let e : b ≡ min b c = omega arith in
           lower_one e (refused_at s blocks_long hb (λ d l. blocks_below d l (omega arith))

@@ -7,7 +7,7 @@ use native.Mathlib.Nat.{mod-add-mod, mod-lt, add_assoc}
 use native.Mathlib.Numerals.{add-one}
 use native.Mathlib.Omega.{arith}
 use lib.ListN.{length, get_or, take}
-use lib.Seq.{take-suc, take_all, length-take-le}
+use lib.Seq.{take-suc, length-take-le}
 use Rattle.blocks.specs.Blocks.{weighed, check_of}
 
 -- ---- the weighed sum
@@ -62,6 +62,3 @@ module _ {b k sum : ℕ} {l : List ℕ} (s : CheckSo b l k sum) where
             ∙ mod-add-mod (b + 1 + weighed 0 (take k l)) 65521 ((k + 1) * get_or l k 0)
             ∙ ap (λ (n : ℕ). n % 65521) (add_assoc (b + 1) (weighed 0 (take k l)) ((k + 1) * get_or l k 0) ∙ ap (λ (n : ℕ). b + 1 + n) (sym grown));
       })
-
-  pub check_done : k ≡ length l → sum ≡ check_of b l
-  check_done e = s.is ∙ ap (check_of b) (take_all k l (omega arith))

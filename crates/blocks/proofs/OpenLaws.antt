@@ -13,7 +13,7 @@ use lib.Seq.{length-take-le, get_or-append-add, get_or-take, get_or-drop}
 use borrow.Author.Tests.{ltb-true, ltb-false}
 use Rattle.whole.proofs.Parts.{part_back}
 use Rattle.blocks.specs.Blocks.{padded}
-use Rattle.blocks.specs.Opened.{place_of, Opened}
+use Rattle.blocks.specs.Opened.{place_of}
 use Rattle.whole.specs.Filled.{Filled}
 use Rattle.blocks.proofs.CopyLaws.{part_long, part_at}
 use Rattle.whole.proofs.Filling.{behind, back, back_long}
@@ -30,12 +30,6 @@ pub record OpenSo (f : List ℕ) (b : ℕ) (out : List ℕ) : Type 0 where
   pub inside : b ≤ 98
   pub long : length out ≡ 49784
   pub bytes : (k : ℕ) → k < 508 * b → get_or out k 0 ≡ get_or f (place_of k) 0
-
-pub open_begun : (f out : List ℕ) → length out ≡ 49784 → OpenSo f 0 out
-open_begun f out h = record { inside = omega arith; long = h; bytes = λ k l. absurd (none k l) }
-  where
-    none : (k : ℕ) → k < 508 * 0 → ⊥
-    none k h = omega arith
 
 -- a list that was put behind the first n of another
 module _ (n : ℕ) (l p : List ℕ) (h : n ≤ length l) where
@@ -77,6 +71,3 @@ module _ {f out : List ℕ} {b : ℕ} (s : OpenSo f b out) where
           let place : 512 * b + (k - 508 * b) ≡ place_of k = omega arith in
           ap (λ (i : ℕ). get_or (take (508 * b) out ++ p) i 0) split ∙ behind_at (508 * b) out p room (k - 508 * b)
           ∙ copied (k - 508 * b) (omega arith) ∙ ap (λ (i : ℕ). get_or f i 0) place
-
-  pub open_done : 98 ≤ b → Opened f out
-  open_done h = record { long = s.long; bytes = λ k l. s.bytes k (omega arith) }

@@ -1,13 +1,14 @@
 -- Blocks written one after another: one block more stands behind those that are written, and each has 512 bytes. Assumes nothing.
+use Rattle.std.specs.Prelude.{Ok}
 use mathlib.Core.Path.{◌≡◌, refl, sym, ap, ap₂, ◌∙◌, subst}
 use mathlib.Core.List.{List, [], ◌∷◌, ◌++◌, append_assoc, append-nil}
-use Prim.Native.Nat.{ℕ, zero, suc, ◌+◌, ◌*◌, ◌/◌, ◌%◌, ◌≤◌, ◌<◌}
+use Prim.Native.Nat.{ℕ, zero, suc, ◌+◌, ◌*◌, ◌≤◌, ◌<◌}
 use native.Mathlib.Numerals.{add-one}
 use native.Mathlib.Omega.{arith}
 use lib.ListN.{length, take, drop, length-append}
-use lib.Seq.{take_at, drop-drop}
+use lib.Seq.{take_at, drop_at, drop-drop}
+use borrow.Rule.Slice.PartMut.{put_mid}
 use Rattle.blocks.specs.Blocks.{check_of, two, tail_of, padded, block_of, sealed, blocks_for, file_of}
-use Rattle.blocks.specs.declared.Sealing.TheVariants as sealing-is
 use Rattle.blocks.specs.Faults.{SealAnswer}
 use Rattle.blocks.specs.Faults as answers
 use Rattle.whole.specs.Filled.{Filled}
@@ -28,13 +29,23 @@ block_long b l = simp length-append (omega (arith, part_long l))
 pub front_is : {p old new : List ℕ} (n : ℕ) → length p ≡ n → Filled p old new → take n new ≡ p
 front_is {p} {old} n h f = ap (take n) f.filled ∙ take_at p (drop (length p) old) n h
 
+-- and behind it what was there
+rest_is : {p old new : List ℕ} (n : ℕ) → length p ≡ n → Filled p old new → drop n new ≡ drop n old
+rest_is {p} {old} n h f = ap (drop n) f.filled ∙ drop_at p (drop (length p) old) n h ∙ ap (λ (k : ℕ). drop k old) h
+
 pub block_filled : (b : ℕ) (l : List ℕ) {v : ℕ} {old new t : List ℕ} → Filled (padded (take 508 l)) old new
-    → v ≡ check_of b (take 508 new) → Filled (v % 256 ∷ v / 256 ∷ 0 ∷ 0 ∷ []) (behind 508 new) t
-    → Filled (block_of b (take 508 l)) old (back 508 new t)
-unfolding block_of tail_of two
+    → v ≡ check_of b (take 508 new) → t ≡ two v ++ 0 ∷ 0 ∷ [] → Filled (block_of b (take 508 l)) old (put_mid 508 4 new t)
+unfolding block_of tail_of
 block_filled b l {v} {old} {new} {t} f e g =
-    let is : v ≡ check_of b (padded (take 508 l)) = e ∙ ap (check_of b) (front_is 508 (part_long l) f) in
-    filled_more 508 f (part_long l) (subst (λ (v : ℕ). Filled (v % 256 ∷ v / 256 ∷ 0 ∷ 0 ∷ []) (behind 508 new) t) is g)
+    let p = padded (take 508 l) in
+    let front : take 508 new ≡ p = front_is 508 (part_long l) f in
+    let tail : t ≡ tail_of b p = g ∙ ap (λ (v : ℕ). two v ++ 0 ∷ 0 ∷ []) (e ∙ ap (check_of b) front) in
+    let rest : drop 4 (drop 508 new) ≡ drop 512 old = ap (drop 4) (rest_is 508 (part_long l) f) ∙ drop-drop 4 508 old in
+    record {
+      filled =
+          ap₂ ◌++◌ front (ap₂ ◌++◌ tail rest) ∙ sym (append_assoc p (tail_of b p) (drop 512 old))
+          ∙ ap (λ (n : ℕ). block_of b (take 508 l) ++ drop n old) (sym (block_long b l));
+    }
 
 -- ---- all blocks
 
@@ -68,9 +79,6 @@ unfolding sealed
 seal_begun l old blocks = record { inside = omega arith; long = refl; wrote = record { filled = refl } }
 
 module _ {l old new : List ℕ} {blocks b : ℕ} (s : SealSo l blocks b old new) where
-  pub seal_room : b < blocks → 512 * blocks ≤ length old → 512 * b + 512 ≤ length new
-  seal_room h r = omega (arith, s.long)
-
   pub seal_more : {p : List ℕ} → b < blocks → Filled (block_of b (take 508 (drop (508 * b) l))) (behind (512 * b) new) p
       → length p ≡ length (behind (512 * b) new) → SealSo l blocks (b + 1) old (back (512 * b) new p)
   seal_more {p} h f e =
@@ -83,16 +91,11 @@ module _ {l old new : List ℕ} {blocks b : ℕ} (s : SealSo l blocks b old new)
             (filled_more (512 * b) s.wrote (sealed_long b 0 l) f);
       })
 
-  pub seal_done : blocks ≤ b → Filled (sealed blocks 0 l) old new
-  seal_done h =
-      let e : b ≡ blocks = omega (arith, s.inside) in
-      subst (λ (n : ℕ). Filled (sealed n 0 l) old new) e s.wrote
-
 -- ---- the answer
 
 pub seal_sealed : (l : List ℕ) {old new : List ℕ} → 1 ≤ blocks_for (length l) → blocks_for (length l) ≤ 98 → 512 * blocks_for (length l) ≤ length old
-    → Filled (sealed (blocks_for (length l)) 0 l) old new → SealAnswer l old new (sealing-is.Blocks (blocks_for (length l)))
+    → Filled (sealed (blocks_for (length l)) 0 l) old new → SealAnswer l old new (Ok (blocks_for (length l)))
 unfolding file_of
 seal_sealed l {old} {new} some few h f =
-    subst (λ (new : List ℕ). SealAnswer l old new (sealing-is.Blocks (blocks_for (length l))))
+    subst (λ (new : List ℕ). SealAnswer l old new (Ok (blocks_for (length l))))
     (sym (f.filled ∙ ap (λ (n : ℕ). file_of l ++ drop n old) (sealed_long (blocks_for (length l)) 0 l))) (answers.sealed some few h)

@@ -1,13 +1,9 @@
 -- 01, "What comes back": 14 BLOCK "file length 0, not whole blocks, or over 98"; 15 CHECK "a block's check or its two zero bytes are
 -- wrong", place the block; 8 ROOM: "writing needs 512 bytes a block".
-use Rattle.std.specs.Prelude.{◌≡◌, List, [], ◌∷◌, ◌++◌, ℕ, ◌*◌, ◌/◌, ◌≤◌, ◌<◌, length, drop}
+use Rattle.std.specs.Prelude.{◌≡◌, List, [], ◌∷◌, ◌++◌, ℕ, ◌*◌, ◌/◌, ◌≤◌, ◌<◌, length, drop, Result, Ok, Err}
 use Rattle.fault.specs.declared.Fault.TheVariants.{Block, Check, Room}
 use Rattle.fault.specs.declared.Refusal.{Refusal}
 use Rattle.fault.specs.Gates.{Gate, unless, Placed, Stopped}
-use Rattle.blocks.specs.declared.BlocksJudgement.{BlocksJudgement}
-use Rattle.blocks.specs.declared.BlocksJudgement.TheVariants as blocks-are
-use Rattle.blocks.specs.declared.Sealing.{Sealing}
-use Rattle.blocks.specs.declared.Sealing.TheVariants as sealing-is
 use Rattle.blocks.specs.Blocks.{tail_of, file_of, blocks_for, block_at, contents_at}
 
 -- n whole blocks, 1 to 98 of them
@@ -28,9 +24,9 @@ pub record Sound (f : List ℕ) (n : ℕ) : Type 0 where
 abbrev pub blocks_gates : List ℕ → List Gate
 blocks_gates f = unless Block (WholeBlocks f (length f / 512)) ∷ Placed Check (CheckFault f) (length f / 512) ∷ []
 
-pub data BlocksJudged (f : List ℕ) : BlocksJudgement → Type 0 where
-  refused : {r : Refusal} → Stopped (blocks_gates f) r → BlocksJudged f (blocks-are.Refused r)
-  sound : {n : ℕ} → Sound f n → BlocksJudged f (blocks-are.Sound n)
+pub data BlocksJudged (f : List ℕ) : Result ℕ Refusal → Type 0 where
+  refused : {r : Refusal} → Stopped (blocks_gates f) r → BlocksJudged f (Err r)
+  sound : {n : ℕ} → Sound f n → BlocksJudged f (Ok n)
 
 -- BLOCK, then ROOM: the contents l need 1 to 98 blocks, of 512 bytes each
 abbrev pub seal_gates : List ℕ → List ℕ → List Gate
@@ -38,7 +34,7 @@ seal_gates l out =
     unless Block ((1 ≤ blocks_for (length l)) × (blocks_for (length l) ≤ 98)) ∷ unless Room (512 * blocks_for (length l) ≤ length out) ∷ []
 
 -- the contents l sealed in blocks at the front of a slice that held out and holds out'
-pub data SealAnswer (l out : List ℕ) : List ℕ → Sealing → Type 0 where
-  refused : {r : Refusal} → Stopped (seal_gates l out) r → SealAnswer l out out (sealing-is.Refused r)
+pub data SealAnswer (l out : List ℕ) : List ℕ → Result ℕ Refusal → Type 0 where
+  refused : {r : Refusal} → Stopped (seal_gates l out) r → SealAnswer l out out (Err r)
   sealed : 1 ≤ blocks_for (length l) → blocks_for (length l) ≤ 98 → 512 * blocks_for (length l) ≤ length out
-      → SealAnswer l out (file_of l ++ drop (512 * blocks_for (length l)) out) (sealing-is.Blocks (blocks_for (length l)))
+      → SealAnswer l out (file_of l ++ drop (512 * blocks_for (length l)) out) (Ok (blocks_for (length l)))

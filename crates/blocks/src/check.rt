@@ -1,6 +1,6 @@
 // The check of a block's contents.
-ghost use Rattle.std.specs.Prelude.{◌≡◌, ◌+◌, ◌*◌, ◌%◌, ◌≤◌, ◌<◌, length};
-ghost use Rattle.blocks.specs.Blocks.{check_of};
+ghost use Rattle.std.specs.Prelude.{◌≡◌, [], ◌∷◌, ◌++◌, ◌+◌, ◌*◌, ◌%◌, ◌≤◌, ◌<◌, length};
+ghost use Rattle.blocks.specs.Blocks.{check_of, two};
 
 // The check of block `b` with these contents.
 pub(crate) fn check(contents: &[u8], b: usize) -> usize
@@ -8,10 +8,8 @@ pub(crate) fn check(contents: &[u8], b: usize) -> usize
     ensures { result ≡ check_of b contents.now }
 {
     let mut sum = b + 1;
-    let mut k = 0;
-    while k < contents.len() {
-        sum = added(sum, k, contents[k]);
-        k += 1;
+    for (k, byte) in contents.iter().enumerate() {
+        sum = added(sum, k, *byte);
     }
     sum
 }
@@ -21,5 +19,14 @@ fn added(sum: usize, k: usize, byte: u8) -> usize
     requires { (sum < 65521) × (k < 508) }
     ensures { result ≡ (sum + (k + 1) * byte) % 65521 }
 {
-    (sum + (k + 1) * (byte as usize)) % 65_521
+    (sum + (k + 1) * usize::from(byte)) % 65_521
+}
+
+// What stands behind the contents of a block whose check is `sum`: two bytes, low first, and two zeros.
+pub(crate) fn behind(sum: usize) -> [u8; 4]
+    requires { sum < 65521 }
+    ensures { result ≡ two sum ++ 0 ∷ 0 ∷ [] }
+{
+    let [low, high] = (sum as u16).to_le_bytes();
+    [low, high, 0, 0]
 }

@@ -4,22 +4,13 @@ ghost use Rattle.blocks.specs.Opened.{Opened};
 
 use crate::copying::copy;
 
-// Room for the contents of 98 blocks.
-pub(crate) fn no_bytes() -> [u8; 49784]
-    ensures { 49784 ≡ length result }
-{
-    [0u8; 49784]
-}
-
 // All blocks that a file can have, each to its place. Of those that this one does not have the contents are 0.
 pub(crate) fn open_all(file: &[u8], out: &mut [u8])
     requires { length out.old ≡ 49784 }
     ensures { Opened file.now out.new }
 {
-    let mut b = 0;
-    while b < 98 {
+    for b in 0..98 {
         let to = 508 * b;
         copy(file, 512 * b, &mut out[to..]);
-        b += 1;
     }
 }

@@ -1,34 +1,20 @@
 // Contents sealed in blocks. Each writer writes at the front of the slice that it is lent and leaves the rest as it was, so a caller
 // lends the part from where that block begins.
-ghost use Rattle.std.specs.Prelude.{[], ◌∷◌, ◌*◌, ◌≤◌, ◌<◌, length, take, drop};
+ghost use Rattle.std.specs.Prelude.{◌*◌, ◌≤◌, ◌<◌, length, take, drop};
 ghost use Rattle.blocks.specs.Blocks.{block_of, sealed};
 ghost use Rattle.whole.specs.Filled.{Filled};
 
-use crate::check::check;
+use crate::check::{behind, check};
 use crate::copying::copy;
-
-// What stands behind the contents.
-fn put_tail(out: &mut [u8], low: u8, high: u8)
-    requires { 4 ≤ length out.old }
-    ensures { Filled (low ∷ high ∷ 0 ∷ 0 ∷ []) out.old out.new }
-{
-    out[0] = low;
-    out[1] = high;
-    out[2] = 0;
-    out[3] = 0;
-}
 
 // Block `b`. The check is taken of the contents as they stand in the block, with their filler.
 fn put_block(contents: &[u8], out: &mut [u8], b: usize)
     requires { (b < 98) × (512 ≤ length out.old) }
     ensures { Filled (block_of b (take 508 (drop (508 * b) contents.now))) out.old out.new }
 {
-    let behind = 508;
     copy(contents, 508 * b, out);
-    let sum = check(&out[..behind], b);
-    let low = (sum % 256) as u8;
-    let high = (sum / 256) as u8;
-    put_tail(&mut out[behind..], low, high);
+    let sum = check(&out[..508], b);
+    out[508..512].copy_from_slice(&behind(sum));
 }
 
 // All blocks, each in its own part.
@@ -36,10 +22,8 @@ pub(crate) fn put_blocks(contents: &[u8], out: &mut [u8], blocks: usize)
     requires { (blocks ≤ 98) × (512 * blocks ≤ length out.old) }
     ensures { Filled (sealed blocks 0 contents.now) out.old out.new }
 {
-    let mut b = 0;
-    while b < blocks {
+    for b in 0..blocks {
         let at = 512 * b;
         put_block(contents, &mut out[at..], b);
-        b += 1;
     }
 }

@@ -7,12 +7,13 @@ use native.Mathlib.Omega.{arith}
 use lib.IntN.{ℤ, pos}
 use lib.ListN.{length, take, replicate}
 use lib.Signed.{◌≤ℤ◌}
+use Rattle.std.specs.Prelude.{Ok, Err, None}
 use Rattle.whole.proofs.Order.{lt_z_true}
 use Rattle.whole.specs.Sum.{sum}
-use Rattle.whole.specs.Tests.{some, eq_z}
+use Rattle.whole.specs.Tests.{some}
 use Rattle.fault.specs.declared.Fault.TheVariants.{Twin, Turn, Strip, Below}
 use Rattle.fault.specs.declared.Status.{Status}
-use Rattle.trace.specs.declared.Judgement.TheVariants.{Fit, Unfit}
+use Rattle.trace.specs.Judgement.{fit_of}
 use Rattle.trace.specs.Points.{count, px, py, segment, twice_area}
 use Rattle.trace.specs.Judged.{judged, verdict_of, out_at, twin_at, in_range}
 use Rattle.fault.specs.Gates.{at}
@@ -28,8 +29,6 @@ use Rattle.strip.specs.Worth.{W, worths, worth_a, worth_b}
 use Rattle.strip.specs.Bytes.{bytes, times, IsStrip}
 use Rattle.strip.specs.Judging.{StripJudged}
 use Rattle.strip.proofs.JudgingLaws.{pair, strip, other}
-use Rattle.strip.specs.declared.Valued.TheVariants.{Value, Refused}
-use Rattle.joining.specs.declared.Followed.TheVariants as Followed
 use Rattle.joining.specs.Answers.{Enough, HandedIn, NextAnswer}
 use Rattle.joining.proofs.NextCases.{below, none_left}
 use Rattle.strip.proofs.BytesLaws.{numbers_exactly}
@@ -38,36 +37,36 @@ use Rattle.cases.specs.Table.{Row, valued, best, Answered, AllHold, none, and, T
 
 -- ---- the traces
 
-t_fit : judged T ≡ Fit (pos 4) 3
-unfolding judged verdict_of out_at twin_at in_range count px py segment twice_area sum some eq_z
+t_fit : judged T ≡ fit_of (pos 4) 3
+unfolding judged verdict_of out_at twin_at in_range count px py segment twice_area sum some
 t_fit = refl
 
-later_fit : judged later ≡ Fit (pos 4) 3
-unfolding judged verdict_of out_at twin_at in_range count px py segment twice_area sum some eq_z
+later_fit : judged later ≡ fit_of (pos 4) 3
+unfolding judged verdict_of out_at twin_at in_range count px py segment twice_area sum some
 later_fit = refl
 
-repeated_twin : judged repeated ≡ Unfit Twin
-unfolding judged verdict_of out_at twin_at in_range count px py segment twice_area sum some eq_z
+repeated_twin : judged repeated ≡ Err Twin
+unfolding judged verdict_of out_at twin_at in_range count px py segment twice_area sum some
 repeated_twin = refl
 
-turned_turn : judged turned ≡ Unfit Turn
-unfolding judged verdict_of out_at twin_at in_range count px py segment twice_area sum some eq_z
+turned_turn : judged turned ≡ Err Turn
+unfolding judged verdict_of out_at twin_at in_range count px py segment twice_area sum some
 turned_turn = refl
 
-flat_turn : judged flat ≡ Unfit Turn
-unfolding judged verdict_of out_at twin_at in_range count px py segment twice_area sum some eq_z
+flat_turn : judged flat ≡ Err Turn
+unfolding judged verdict_of out_at twin_at in_range count px py segment twice_area sum some
 flat_turn = refl
 
-pairs : (b : List ℤ) → judged b ≡ Fit (pos 4) 3 → Pair T b
+pairs : (b : List ℤ) → judged b ≡ fit_of (pos 4) 3 → Pair T b
 pairs b e = record { lower = ((fit_exactly T (pos 4) 3).0 t_fit).0; upper = ((fit_exactly b (pos 4) 3).0 e).0 }
 
 -- ---- a strip
 
 -- offered, with the value that its sum evaluates to
 offered : (b : List ℤ) {v : ℤ} (s : List Step) → Pair T b → Ways.Strip (count T) (count b) s → W T b s ≡ v
-    → StripJudged T b (bytes s) (Value v)
+    → StripJudged T b (bytes s) (Ok v)
 offered b s p i e =
-    subst (λ (v : ℤ). StripJudged T b (bytes s) (Value v)) e (strip p (record { steps = s; written = refl; strip = i }))
+    subst (λ (v : ℤ). StripJudged T b (bytes s) (Ok v)) e (strip p (record { steps = s; written = refl; strip = i }))
 
 -- a best one, since it attains the last index
 attains : (b : List ℤ) (s : List Step) → Ways.Strip (count T) (count b) s → W T b s ≡ top (worths T b) (count T) (count b)
@@ -135,15 +134,15 @@ unfolding steps_a steps_b value_from worth_a worth_b count px py top maxℤ poin
 others_hold =
     and t_first
     (and (offered T (A ∷ A ∷ A ∷ B ∷ B ∷ B ∷ []) (pairs T t_fit) (of_three (A ∷ A ∷ A ∷ B ∷ B ∷ B ∷ []) refl refl).0 refl)
-    (and (says (Refused (at Strip 0)) (other (pairs T t_fit) (too_many _ refl)) refl)
+    (and (says (Err (at Strip 0)) (other (pairs T t_fit) (too_many _ refl)) refl)
     (and later_first
     (and (offered later (A ∷ B ∷ A ∷ B ∷ A ∷ B ∷ []) (pairs later later_fit) (of_three (A ∷ B ∷ A ∷ B ∷ A ∷ B ∷ []) refl refl).1 refl)
-    (and (says (Unfit Twin) (given_of repeated_twin) refl)
-    (and (says (Refused (at Twin 0)) (pair (lower (given_of repeated_twin))) refl)
-    (and (says (Unfit Turn) (given_of turned_turn) refl)
-    (and (says (Refused (at Turn 0)) (pair (lower (given_of turned_turn))) refl)
-    (and (says (Unfit Turn) (given_of flat_turn) refl)
-    (and (says (Refused (at Turn 0)) (pair (lower (given_of flat_turn))) refl) none))))))))))
+    (and (says (Err Twin) (given_of repeated_twin) refl)
+    (and (says (Err (at Twin 0)) (pair (lower (given_of repeated_twin))) refl)
+    (and (says (Err Turn) (given_of turned_turn) refl)
+    (and (says (Err (at Turn 0)) (pair (lower (given_of turned_turn))) refl)
+    (and (says (Err Turn) (given_of flat_turn) refl)
+    (and (says (Err (at Turn 0)) (pair (lower (given_of flat_turn))) refl) none))))))))))
 
 -- ---- the whole lists
 
@@ -189,14 +188,14 @@ enough s e = record {
 abbrev handed : (s : List Step) → take (count T + count T) (bytes s) ≡ bytes s → Ways.Strip (count T) (count T) s → HandedIn T T (bytes s)
 handed s e i = record { steps = s; written = e; strip = i }
 
-below_8 : NextAnswer T T (bytes (A ∷ A ∷ A ∷ B ∷ B ∷ B ∷ [])) (replicate 16 7) (bytes (A ∷ A ∷ A ∷ B ∷ B ∷ B ∷ [])) (replicate 16 7) (Followed.Refused (at Below 0))
+below_8 : NextAnswer T T (bytes (A ∷ A ∷ A ∷ B ∷ B ∷ B ∷ [])) (replicate 16 7) (bytes (A ∷ A ∷ A ∷ B ∷ B ∷ B ∷ [])) (replicate 16 7) (Err (at Below 0))
 unfolding steps_a steps_b value_from worth_a worth_b count px py
 below_8 =
     below (pairs T t_fit) (enough (A ∷ A ∷ A ∷ B ∷ B ∷ B ∷ []) refl) (handed (A ∷ A ∷ A ∷ B ∷ B ∷ B ∷ []) refl (of_three (A ∷ A ∷ A ∷ B ∷ B ∷ B ∷ []) refl refl).0)
     (of_three (A ∷ B ∷ A ∷ B ∷ A ∷ B ∷ []) refl refl).0 (lt_z_true (pos 0) (pos 8) refl)
     (record { strip_same = refl; work_same = refl })
 
-none_left_lem : NextAnswer T T (bytes (A ∷ B ∷ A ∷ B ∷ A ∷ B ∷ [])) (replicate 16 7) (bytes (A ∷ B ∷ A ∷ B ∷ A ∷ B ∷ [])) (replicate 16 0) Followed.NoneLeft
+none_left_lem : NextAnswer T T (bytes (A ∷ B ∷ A ∷ B ∷ A ∷ B ∷ [])) (replicate 16 7) (bytes (A ∷ B ∷ A ∷ B ∷ A ∷ B ∷ [])) (replicate 16 0) (Ok None)
 unfolding steps_a steps_b value_from worth_a worth_b count px py top maxℤ pointer also_b trace clear
 none_left_lem =
     let s : List Step = A ∷ B ∷ A ∷ B ∷ A ∷ B ∷ [] in
@@ -213,8 +212,8 @@ lists_hold : AllHold lists
 lists_hold =
     and t_list
     (and later_list
-    (and (says (Followed.Refused (at Below 0)) below_8 refl)
-    (and (says Followed.NoneLeft none_left_lem refl) none)))
+    (and (says (Err (at Below 0)) below_8 refl)
+    (and (says (Ok None) none_left_lem refl) none)))
 
 all_hold : {k l : List Row} → AllHold k → AllHold l → AllHold (k ++ l)
 all_hold none y = y

@@ -1,6 +1,7 @@
 -- 01, "Cases to be proved together": "One table with one theorem over it holds the rows marked *." The theorem is `proofs/Rows.antt`.
-use Rattle.std.specs.Prelude.{◌≡◌, List, [], ◌∷◌, ◌++◌, ℕ, ℤ, pos, replicate}
+use Rattle.std.specs.Prelude.{◌≡◌, List, [], ◌∷◌, ◌++◌, ℕ, ℤ, pos, replicate, Ok, Err, Some, None}
 use Rattle.fault.specs.declared.Status.{Status}
+use Rattle.fault.specs.Status.{result_status}
 use Rattle.trace.specs.Points.{count}
 use Rattle.trace.specs.Faults.{Given}
 use Rattle.trace.specs.Status.{judgement_status}
@@ -10,10 +11,7 @@ use Rattle.ways.specs.Best.{Best, FirstBest, Listed}
 use Rattle.strip.specs.Worth.{value_of}
 use Rattle.strip.specs.Bytes.{bytes}
 use Rattle.strip.specs.Judging.{StripJudged}
-use Rattle.strip.specs.Status.{valued_status}
-use Rattle.strip.specs.declared.Valued.TheVariants.{Value}
-use Rattle.joining.specs.declared.Followed.{Followed}
-use Rattle.joining.specs.Answers.{NextAnswer}
+use Rattle.joining.specs.Answers.{NextAnswer, Followed}
 use Rattle.joining.specs.Status.{followed_status}
 
 -- 01's number of an answer, and its place: 5 is TWIN, 6 TURN, 9 STRIP, 10 BELOW, 100 "None left"
@@ -38,9 +36,9 @@ pub data Row : Type 0 where
 
 -- 16 work bytes are lent with a 7 in each: a refusal leaves them, else they are zero
 abbrev pub work_after : Followed → List ℕ
-work_after (Followed.Refused r) = replicate 16 7
-work_after Followed.NoneLeft = replicate 16 0
-work_after (Followed.Next v) = replicate 16 0
+work_after (Err r) = replicate 16 7
+work_after (Ok None) = replicate 16 0
+work_after (Ok (Some v)) = replicate 16 0
 
 -- the contract allows an answer, and that has this status
 pub record Answered {X : Type 0} (Allowed : X → Type 0) (statusIs : X → Status) (s : Status) : Type 0 where
@@ -50,8 +48,8 @@ pub record Answered {X : Type 0} (Allowed : X → Type 0) (statusIs : X → Stat
 
 abbrev pub Holds : Row → Type 0
 Holds (judging c n) = Answered (Given c) judgement_status n
-Holds (offering a b s n) = Answered (StripJudged a b (bytes s)) valued_status n
-Holds (valued a b s v) = StripJudged a b (bytes s) (Value v)
+Holds (offering a b s n) = Answered (StripJudged a b (bytes s)) result_status n
+Holds (valued a b s v) = StripJudged a b (bytes s) (Ok v)
 Holds (best a b s) = Best (Ways.Strip (count a) (count b)) (value_of a b) s
 Holds (first a b s) = FirstBest (Ways.Strip (count a) (count b)) (value_of a b) s
 Holds (list a b l) = Listed (Ways.Strip (count a) (count b)) (value_of a b) l

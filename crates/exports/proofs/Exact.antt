@@ -19,14 +19,12 @@ use Rattle.bands.specs.Bands.{BandsAnswer}
 use Rattle.bands.proofs.Exact.{bands_unique}
 use Rattle.mesh.specs.Meshing.{Measured, Triangled}
 use Rattle.mesh.proofs.Answers.{measured_once, triangled_once}
-use Rattle.register.specs.declared.FileRead.{FileRead}
 use Rattle.register.specs.Writing.{WriteAnswer}
 use Rattle.register.specs.Reading.{Lent}
 use Rattle.register.proofs.WriteExact.{write_unique}
 use Rattle.register.proofs.ReadExact.{read_unique}
 use Rattle.listing.specs.Listing.{ListingAnswer}
 use Rattle.listing.proofs.Unique.{answer_unique}
-use Rattle.entries.specs.Scattered.{scattered}
 use Rattle.exports.specs.declared.Answer.{Answer}
 use Rattle.exports.specs.declared.TraceAnswer.{TraceAnswer}
 use Rattle.exports.specs.declared.RunAnswer.{RunAnswer}
@@ -36,8 +34,8 @@ use Rattle.exports.specs.declared.stacks.MeshAnswer.{MeshAnswer}
 use Rattle.exports.specs.declared.files.BytesAnswer.{BytesAnswer}
 use Rattle.exports.specs.declared.files.FileAnswer.{FileAnswer}
 use Rattle.exports.specs.Shown.{Shows, valued, followed, listed, judged_as}
-use Rattle.exports.specs.Stacks.{stack_as, banded_as, volumed_as, meshed_as}
-use Rattle.exports.specs.Files.{written_as, read_as, listed_as, FileShown}
+use Rattle.exports.specs.Stacks.{stack_as, banded_as, meshed_as}
+use Rattle.exports.specs.Files.{written_as, read_as, FileShown}
 
 -- what is shown of one answer
 same_shown : {X Y : Type 0} (show : X → Y) {x x' : X} {r r' : Y} {s s' w w' : List ℕ} → Same x x' s s' w w' → r ≡ show x → r' ≡ show x'
@@ -71,8 +69,8 @@ module _ {es : List Layer} {c : List ℤ} where
   register_judge_stack_unique (x, (p, e)) (y, (q, f)) = e ∙ ap stack_as (stack_judged_unique p q) ∙ sym f
 
 module _ {es : List Layer} {c : List ℤ} {l : List ℕ} where
-  pub register_volume_unique : {r r' : Answer} → Shows (Measured es c l) volumed_as r → Shows (Measured es c l) volumed_as r' → r ≡ r'
-  register_volume_unique (x, (p, e)) (y, (q, f)) = e ∙ ap volumed_as (measured_once p q) ∙ sym f
+  pub register_volume_unique : {r r' : Answer} → Shows (Measured es c l) valued r → Shows (Measured es c l) valued r' → r ≡ r'
+  register_volume_unique (x, (p, e)) (y, (q, f)) = e ∙ ap valued (measured_once p q) ∙ sym f
 
   pub register_triangles_unique : {out new old : List ℕ} {r r' : MeshAnswer} → Shows (Triangled es c l out new) meshed_as r
       → Shows (Triangled es c l out old) meshed_as r' → (new ≡ old) × (r ≡ r')
@@ -92,18 +90,10 @@ module _ {es : List Layer} {c : List ℤ} {l : List ℕ} where
 module _ {f : List ℕ} {es : List Layer} {c : List ℤ} {l : List ℕ} where
   pub register_read_unique : {d d' : List Layer} {b b' : List ℤ} {m m' : List ℕ} {r r' : FileAnswer} → FileShown f es c l d b m r
       → FileShown f es c l d' b' m' r' → (((r ≡ r') × (d ≡ d')) × (b ≡ b')) × (m ≡ m')
-  register_read_unique p q =
-      let same = read_unique p.answer q.answer in (
-        (
-          (
-            p.shown ∙ ap (λ (x : FileRead). read_as x.stack.count x.answer) same.1 ∙ sym q.shown,
-            p.entries ∙ ap (λ (x : FileRead). scattered x.stack es) same.1 ∙ sym q.entries,
-          ),
-          ap (λ (x : Lent). x.coords) same.0,
-        ),
-        ap (λ (x : Lent). x.strips) same.0,
-      )
+  register_read_unique (x, (p, e)) (y, (q, g)) =
+      let same = read_unique p q in
+      (((e ∙ ap read_as same.1 ∙ sym g, ap (λ (x : Lent). x.entries) same.0), ap (λ (x : Lent). x.coords) same.0), ap (λ (x : Lent). x.strips) same.0)
 
-pub register_listing_unique : {t out new old : List ℕ} {r r' : BytesAnswer} → Shows (ListingAnswer t out new) listed_as r
-    → Shows (ListingAnswer t out old) listed_as r' → (new ≡ old) × (r ≡ r')
-register_listing_unique (x, (p, e)) (y, (q, f)) = let same = answer_unique p q in (same.1, e ∙ ap listed_as same.0 ∙ sym f)
+pub register_listing_unique : {t out new old : List ℕ} {r r' : BytesAnswer} → Shows (ListingAnswer t out new) written_as r
+    → Shows (ListingAnswer t out old) written_as r' → (new ≡ old) × (r ≡ r')
+register_listing_unique (x, (p, e)) (y, (q, f)) = let same = answer_unique p q in (same.1, e ∙ ap written_as same.0 ∙ sym f)

@@ -1,5 +1,5 @@
 // The entry points over plain numbers and slices, for Rattle; the crate `exports_c` hands them to C under the same names. An answer is a
-// status (a number, which is 0 for success, 100 for none left, else the refusal's, and a place) and what was found.
+// status (a number, which is 0 for success, 100 for none left, else the refusal's, and a place) and what was found, or zeros.
 #![tactic(auto)]
 
 pub mod files;
@@ -12,14 +12,13 @@ ghost use Rattle.joining.specs.Answers.{BestAnswer, NextAnswer};
 ghost use Rattle.joining.specs.Listing.{ListAnswer};
 ghost use Rattle.exports.specs.Shown.{Shows, valued, followed, listed, judged_as};
 
-use fault::{Status, none_left, refused, succeeded};
-use joining::{Followed, Run};
-use strip::Valued;
-use trace::Judgement;
+use fault::{Fault, Refusal, Status, none_left, refuse, succeeded};
+use joining::Run;
+use trace::Fit;
 
 // A value.
 #[repr(C)]
-#[derive(Clone, Copy)]
+#[derive(Clone, Copy, Debug, PartialEq, Eq)]
 pub struct Answer {
     pub status: Status,
     pub value: i64,
@@ -27,7 +26,7 @@ pub struct Answer {
 
 // A trace's twice the area and number of points.
 #[repr(C)]
-#[derive(Clone, Copy)]
+#[derive(Clone, Copy, Debug, PartialEq, Eq)]
 pub struct TraceAnswer {
     pub status: Status,
     pub area: i64,
@@ -36,7 +35,7 @@ pub struct TraceAnswer {
 
 // A run of best strips.
 #[repr(C)]
-#[derive(Clone, Copy)]
+#[derive(Clone, Copy, Debug, PartialEq, Eq)]
 pub struct RunAnswer {
     pub status: Status,
     pub value: i64,
@@ -48,42 +47,28 @@ pub struct RunAnswer {
 pub fn register_judge(coords: &[i32]) -> TraceAnswer
     ensures { Shows (Given coords.now) judged_as result }
 {
-    let judged = trace::judge(coords);
-    let Judgement::Fit { area, count } = judged else {
-        return TraceAnswer {
-            status: refused(trace::refused(judged, 0)),
-            area: 0,
-            count: 0,
-        };
-    };
-    TraceAnswer {
-        status: succeeded(),
-        area,
-        count,
-    }
+    TraceAnswer::from(trace::judge(coords))
 }
 
 // A strip made elsewhere: its value.
 pub fn register_judge_strip(a: &[i32], b: &[i32], strip: &[u8]) -> Answer
     ensures { Shows (StripJudged a.now b.now strip.now) valued result }
 {
-    value_shown(strip::judge_strip(a, b, strip))
+    Answer::from(strip::judge_strip(a, b, strip))
 }
 
 // The first best strip, at the front of `strip`.
 pub fn register_best(a: &[i32], b: &[i32], strip: &mut [u8], work: &mut [u8]) -> Answer
-    ensures { Shows (BestAnswer a.now b.now strip.old work.old strip.new work.new)
-        valued result }
+    ensures { Shows (BestAnswer a.now b.now strip.old work.old strip.new work.new) valued result }
 {
-    value_shown(joining::best(a, b, strip, work))
+    Answer::from(joining::best(a, b, strip, work))
 }
 
 // The next best strip, in the place of the one handed in.
 pub fn register_next(a: &[i32], b: &[i32], strip: &mut [u8], work: &mut [u8]) -> Answer
-    ensures { Shows (NextAnswer a.now b.now strip.old work.old strip.new work.new)
-        followed result }
+    ensures { Shows (NextAnswer a.now b.now strip.old work.old strip.new work.new) followed result }
 {
-    next_shown(joining::next(a, b, strip, work))
+    Answer::from(joining::next(a, b, strip, work))
 }
 
 // The first `limit` best strips, one after the other in `lines`.
@@ -94,61 +79,85 @@ pub fn register_list_best(
     work: &mut [u8],
     limit: usize,
 ) -> RunAnswer
-    ensures { Shows (ListAnswer a.now b.now limit lines.old work.old lines.new work.new)
-        listed result }
+    ensures { Shows (ListAnswer a.now b.now limit lines.old work.old lines.new work.new) listed result }
 {
-    run_shown(joining::list_best(a, b, lines, work, limit))
+    RunAnswer::from(joining::list_best(a, b, lines, work, limit))
 }
 
-fn value_shown(answer: Valued) -> Answer
-    ensures { result ≡ valued answer }
-{
-    match answer {
-        Valued::Value(value) => Answer {
-            status: succeeded(),
-            value,
-        },
-        Valued::Refused(refusal) => Answer {
-            status: refused(refusal),
-            value: 0,
-        },
+impl From<Result<Fit, Fault>> for TraceAnswer {
+    ghost from_gives = { λ x r. r ≡ judged_as x };
+
+    fn from(judged: Result<Fit, Fault>) -> TraceAnswer {
+        match judged {
+            Ok(Fit { area, count }) => TraceAnswer {
+                status: succeeded(),
+                area,
+                count,
+            },
+            Err(fault) => TraceAnswer {
+                status: Status::from(refuse(fault, 0)),
+                area: 0,
+                count: 0,
+            },
+        }
     }
 }
 
-fn next_shown(answer: Followed) -> Answer
-    ensures { result ≡ followed answer }
-{
-    match answer {
-        Followed::Next(value) => Answer {
-            status: succeeded(),
-            value,
-        },
-        Followed::NoneLeft => Answer {
-            status: none_left(),
-            value: 0,
-        },
-        Followed::Refused(refusal) => Answer {
-            status: refused(refusal),
-            value: 0,
-        },
+impl From<Result<i64, Refusal>> for Answer {
+    ghost from_gives = { λ x r. r ≡ valued x };
+
+    fn from(valued: Result<i64, Refusal>) -> Answer {
+        match valued {
+            Ok(value) => Answer {
+                status: succeeded(),
+                value,
+            },
+            Err(refusal) => Answer {
+                status: Status::from(refusal),
+                value: 0,
+            },
+        }
     }
 }
 
-fn run_shown(answer: Run) -> RunAnswer
-    ensures { result ≡ listed answer }
-{
-    match answer {
-        Run::Lines { value, count, more } => RunAnswer {
-            status: succeeded(),
-            value,
-            count,
-            more,
-        },
-        Run::Refused(refusal) => RunAnswer {
-            status: refused(refusal),
-            value: 0,
-            count: 0,
-            more: false,
-        },
+impl From<Result<Option<i64>, Refusal>> for Answer {
+    ghost from_gives = { λ x r. r ≡ followed x };
+
+    fn from(followed: Result<Option<i64>, Refusal>) -> Answer {
+        match followed {
+            Ok(Some(value)) => Answer {
+                status: succeeded(),
+                value,
+            },
+            Ok(None) => Answer {
+                status: none_left(),
+                value: 0,
+            },
+            Err(refusal) => Answer {
+                status: Status::from(refusal),
+                value: 0,
+            },
+        }
+    }
+}
+
+impl From<Result<Run, Refusal>> for RunAnswer {
+    ghost from_gives = { λ x r. r ≡ listed x };
+
+    fn from(listed: Result<Run, Refusal>) -> RunAnswer {
+        match listed {
+            Ok(Run { value, count, more }) => RunAnswer {
+                status: succeeded(),
+                value,
+                count,
+                more,
+            },
+            Err(refusal) => RunAnswer {
+                status: Status::from(refusal),
+                value: 0,
+                count: 0,
+                more: false,
+            },
+        }
     }
 }

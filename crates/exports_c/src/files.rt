@@ -2,7 +2,7 @@
 ghost use Rattle.register.specs.Writing.{WriteAnswer};
 ghost use Rattle.listing.specs.Listing.{ListingAnswer};
 ghost use Rattle.exports.specs.Shown.{Shows};
-ghost use Rattle.exports.specs.Files.{written_as, listed_as, FileShown};
+ghost use Rattle.exports.specs.Files.{written_as, FileShown};
 
 use exports::files::{self, BytesAnswer, FileAnswer};
 use stack::Layer;
@@ -39,7 +39,7 @@ pub extern "C" fn register_read(
 // What the listing program prints for a text, at the front of `out`.
 #[unsafe(no_mangle)]
 pub extern "C" fn register_listing(text: &[u8], out: &mut [u8]) -> BytesAnswer
-    ensures { Shows (ListingAnswer text.now out.old out.new) listed_as result }
+    ensures { Shows (ListingAnswer text.now out.old out.new) written_as result }
 {
     files::register_listing(text, out)
 }

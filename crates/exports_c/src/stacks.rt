@@ -2,8 +2,8 @@
 ghost use Rattle.stack.specs.Faults.{StackJudged};
 ghost use Rattle.bands.specs.Bands.{BandsAnswer};
 ghost use Rattle.mesh.specs.Meshing.{Measured, Triangled};
-ghost use Rattle.exports.specs.Shown.{Shows};
-ghost use Rattle.exports.specs.Stacks.{stack_as, banded_as, volumed_as, meshed_as};
+ghost use Rattle.exports.specs.Shown.{Shows, valued};
+ghost use Rattle.exports.specs.Stacks.{stack_as, banded_as, meshed_as};
 
 use exports::Answer;
 use exports::stacks::{self, MeshAnswer, StackAnswer, StepsAnswer};
@@ -34,7 +34,7 @@ pub extern "C" fn register_best_strips(
 // Six times the volume.
 #[unsafe(no_mangle)]
 pub extern "C" fn register_volume(layers: &[Layer], coords: &[i32], strips: &[u8]) -> Answer
-    ensures { Shows (Measured layers.now coords.now strips.now) volumed_as result }
+    ensures { Shows (Measured layers.now coords.now strips.now) valued result }
 {
     stacks::register_volume(layers, coords, strips)
 }

@@ -6,7 +6,10 @@ ghost use Rattle.fault.specs.Gates.{at};
 ghost use Rattle.fault.specs.Number.{number_of};
 ghost use Rattle.fault.specs.Status.{success, none_left, status_of};
 
-#[derive(Clone, Copy)]
+use std::error::Error;
+use std::fmt;
+
+#[derive(Clone, Copy, Debug, PartialEq, Eq)]
 pub enum Fault {
     // odd number of coordinates
     Shape,
@@ -43,7 +46,7 @@ pub enum Fault {
 }
 
 // "Each refusal returns number and place only."
-#[derive(Clone, Copy)]
+#[derive(Clone, Copy, Debug, PartialEq, Eq)]
 pub struct Refusal {
     pub fault: Fault,
     pub place: usize,
@@ -51,7 +54,7 @@ pub struct Refusal {
 
 // What an answer tells of itself, whoever asked: 0 for success, 100 for "none left", else the number of a refusal; and the place.
 #[repr(C)]
-#[derive(Clone, Copy)]
+#[derive(Clone, Copy, Debug, PartialEq, Eq)]
 pub struct Status {
     pub number: u8,
     pub place: usize,
@@ -82,36 +85,50 @@ pub fn none_left() -> Status
     }
 }
 
-pub fn refused(refusal: Refusal) -> Status
-    ensures { result ≡ status_of refusal }
-{
-    let fault = refusal.fault;
-    Status {
-        number: number(fault),
-        place: refusal.place,
+impl From<Refusal> for Status {
+    ghost from_gives = { λ r s. s ≡ status_of r };
+
+    fn from(refusal: Refusal) -> Status {
+        Status {
+            number: u8::from(refusal.fault),
+            place: refusal.place,
+        }
     }
 }
 
+// The line that a program prints of a refusal.
+impl fmt::Display for Refusal {
+    fn fmt<W: fmt::Write>(&self, f: &mut fmt::Formatter<W>) -> fmt::Result {
+        let number = u8::from(self.fault);
+        let place = self.place;
+        write!(f, "refused {number} {place}")
+    }
+}
+
+impl Error for Refusal {}
+
 // 01's number of a fault.
-pub fn number(fault: Fault) -> u8
-    ensures { result ≡ number_of fault }
-{
-    match fault {
-        Fault::Shape => 1,
-        Fault::Few => 2,
-        Fault::Many => 3,
-        Fault::Range => 4,
-        Fault::Twin => 5,
-        Fault::Turn => 6,
-        Fault::Planes => 7,
-        Fault::Room => 8,
-        Fault::Strip => 9,
-        Fault::Below => 10,
-        Fault::Layers => 11,
-        Fault::Span => 12,
-        Fault::Text => 13,
-        Fault::Block => 14,
-        Fault::Check => 15,
-        Fault::Content => 16,
+impl From<Fault> for u8 {
+    ghost from_gives = { λ f n. n ≡ number_of f };
+
+    fn from(fault: Fault) -> u8 {
+        match fault {
+            Fault::Shape => 1,
+            Fault::Few => 2,
+            Fault::Many => 3,
+            Fault::Range => 4,
+            Fault::Twin => 5,
+            Fault::Turn => 6,
+            Fault::Planes => 7,
+            Fault::Room => 8,
+            Fault::Strip => 9,
+            Fault::Below => 10,
+            Fault::Layers => 11,
+            Fault::Span => 12,
+            Fault::Text => 13,
+            Fault::Block => 14,
+            Fault::Check => 15,
+            Fault::Content => 16,
+        }
     }
 }

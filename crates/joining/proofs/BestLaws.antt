@@ -1,16 +1,12 @@
 -- `best`, from what its parts have done: the marks lead back the strip of 001's rule (13), which is the first best one. Assumes nothing.
-use mathlib.Core.Path.{◌≡◌, refl, sym, ap, ap₂, ◌∙◌, subst, subst₂}
-use mathlib.Core.Bool.{true, false, ◌||◌}
+use Rattle.std.specs.Prelude.{Ok}
+use mathlib.Core.Path.{◌≡◌, refl, sym, ap, ◌∙◌, subst, subst₂}
 use mathlib.Core.List.{List, ◌++◌}
 use Prim.Native.Nat.{ℕ, ◌+◌, ◌*◌, ◌≤◌, ◌<◌}
 use native.Mathlib.Omega.{arith}
-use borrow.Author.Tests.{ltb-false, le-ltb}
-use lib.Dec.{ltb}
 use lib.IntN.{ℤ}
 use lib.ListN.{length, drop, replicate}
-use Rattle.whole.proofs.TestLaws.{true≢false, or_false}
 use Rattle.trace.specs.Points.{count}
-use Rattle.fault.specs.Gates.{at}
 use Rattle.strip.specs.Pair.{PairCounts}
 use Rattle.ways.specs.Strip.{Step}
 use Rattle.ways.specs.Keppel.{trace, traced}
@@ -18,9 +14,6 @@ use Rattle.ways.proofs.Greatest.{attained}
 use Rattle.ways.proofs.Traced.{traced_first}
 use Rattle.strip.specs.Worth.{worths, W}
 use Rattle.strip.specs.Bytes.{bytes}
-use Rattle.strip.specs.declared.Valued.{Valued}
-use Rattle.strip.specs.declared.Valued.TheVariants.{Value, Refused}
-use Rattle.fault.specs.declared.Fault.TheVariants.{Room}
 use Rattle.joining.specs.Cells.{room}
 use Rattle.joining.specs.Table.{Tabled}
 use Rattle.joining.specs.Walking.{says_a}
@@ -28,6 +21,12 @@ use Rattle.joining.specs.Answers.{Enough, work_bytes, Untouched, BestAnswer}
 use Rattle.joining.proofs.BestCases.{best}
 use Rattle.joining.proofs.CellLaws.{room_all}
 use Rattle.joining.proofs.MarkLaws.{filled_trace}
+
+-- a table of two traces, by the numbers of their points
+pub tabled_by : {a b : List ℤ} {m n : ℕ} {l l' : List ℕ} {r : ℤ} → PairCounts a b m n → Tabled (worths a b) (count a) (count b) l l' r
+    → Tabled (worths a b) m n l l' r
+tabled_by {a} {b} {l = l} {l'} {r} p f =
+    subst₂ (λ (x y : ℕ). Tabled (worths a b) x y l l' r) (sym p.count_a) (sym p.count_b) f
 
 -- what is lent is as it was
 pub untouched : {strip work : List ℕ} → Untouched strip work strip work
@@ -50,18 +49,6 @@ pub enough_work : {a b : List ℤ} {m n : ℕ} {strip work : List ℕ} → PairC
 enough_work {work = work} p e =
     subst₂ (λ (x y : ℕ). (x + 1) * (y + 1) ≤ length work) (sym p.count_a) (sym p.count_b) e.for_work
 
--- both slices tested at once
-module _ {a b : List ℤ} {m n : ℕ} (strip work : List ℕ) where
-  pub short : PairCounts a b m n → ltb (length strip) (m + n) || ltb (length work) ((m + 1) * (n + 1)) ≡ true → Enough a b strip work → ⊥
-  short p e q =
-      true≢false
-      (sym e ∙ ap₂ ◌||◌ (le-ltb (length strip) (m + n) (enough_strip p q)) (le-ltb (length work) ((m + 1) * (n + 1)) (enough_work p q)))
-
-  pub roomy : PairCounts a b m n → ltb (length strip) (m + n) || ltb (length work) ((m + 1) * (n + 1)) ≡ false → Enough a b strip work
-  roomy p e =
-      let both = or_false (ltb (length strip) (m + n)) (ltb (length work) ((m + 1) * (n + 1))) e in
-      enough p (ltb-false (length strip) (m + n) both.0) (ltb-false (length work) ((m + 1) * (n + 1)) both.1)
-
 pub short_strip : {a b : List ℤ} {m n : ℕ} {strip work : List ℕ} → PairCounts a b m n → length strip < m + n → Enough a b strip work → ⊥
 short_strip p h e = omega (arith, p.count_a, p.count_b, e.for_strip)
 
@@ -80,20 +67,16 @@ pub record BestParts (a b : List ℤ) (strip work strip' work₁ work' : List �
 
 pub best_done : {a b : List ℤ} {m n : ℕ} {strip work strip' work₁ work' : List ℕ} {r : ℤ} → PairCounts a b m n
     → m + n ≤ length strip → (m + 1) * (n + 1) ≤ length work → BestParts a b strip work strip' work₁ work' r m n
-    → BestAnswer a b strip work strip' work' (Value r)
+    → BestAnswer a b strip work strip' work' (Ok r)
 best_done {a} {b} {m} {n} {strip} {work} {strip'} {work₁} {work'} {r} p h k parts =
     go (subst₂ (λ (x y : ℕ). BestParts a b strip work strip' work₁ work' r x y) p.count_a p.count_b parts)
   where
-    go : BestParts a b strip work strip' work₁ work' r (count a) (count b) → BestAnswer a b strip work strip' work' (Value r)
+    go : BestParts a b strip work strip' work₁ work' r (count a) (count b) → BestAnswer a b strip work strip' work' (Ok r)
     go q =
         let w = worths a b in
         let s = traced w (count a) (count b) in
         let value : r ≡ W a b s = q.filled.value ∙ sym (attained w (count a) (count b)).1 in
-        subst (λ (v : ℤ). BestAnswer a b strip work strip' work' (Value v)) (sym value)
+        subst (λ (v : ℤ). BestAnswer a b strip work strip' work' (Ok v)) (sym value)
         (best p.pair (enough p h k) s (traced_first w (count a) (count b))
         (record { front = q.front ∙ ap (λ (t : List Step). bytes t ++ drop (count a + count b) strip) (filled_trace q.filled (count a + count b) (count a) (count b) (omega arith) (omega arith)) })
         (record { zeros = q.zeros ∙ room_all (work_bytes a b) work work₁ q.filled.rest }))
-
-pub no_room_is : {a b : List ℤ} {strip work strip' work' : List ℕ} {r : Valued} → r ≡ Refused (at Room 0)
-    → BestAnswer a b strip work strip' work' (Refused (at Room 0)) → BestAnswer a b strip work strip' work' r
-no_room_is {a} {b} {strip} {work} {strip'} {work'} e x = subst (BestAnswer a b strip work strip' work') (sym e) x

@@ -2,6 +2,9 @@
 -- greatest value, each once, in the stated order; such calls end, and none of them is refused while there is room. Each call's contract
 -- says what `ways` means by first, next and none left, so the calls are a chain of `ways` and the theorems there say the rest.
 -- Assumes nothing.
+use Rattle.std.specs.Prelude.{Result, Ok, Some, None}
+use Rattle.fault.specs.declared.Refusal.{Refusal}
+use Rattle.joining.specs.Answers.{Followed}
 use mathlib.Core.Path.{◌≡◌, refl, sym, ap, ap₂, ◌∙◌, subst}
 use mathlib.Core.Logic.{◌⊎◌, inl, inr}
 use mathlib.Core.List.{List, [], ◌∷◌, ◌++◌, map, map-append, append-nil}
@@ -21,10 +24,6 @@ use Rattle.ways.proofs.Runs.{Chain, one, more, chain_onward, onward_head, onward
 use Rattle.strip.specs.Worth.{W, worths}
 use Rattle.strip.specs.Bytes.{bytes}
 use Rattle.strip.proofs.BytesLaws.{bytes_injective, bytes_length}
-use Rattle.strip.specs.declared.Valued.{Valued}
-use Rattle.strip.specs.declared.Valued.TheVariants.{Value}
-use Rattle.joining.specs.declared.Followed.{Followed}
-use Rattle.joining.specs.declared.Followed.TheVariants.{Next, NoneLeft}
 use Rattle.joining.specs.Answers.{Between, BestOf, FirstOf, NextOf, NoneLeftOf, HandedIn, HandedBest, strip_bytes, work_bytes, Enough, Given, Cleared, best_gates, next_gates, BestAnswer, best, NextAnswer, next, none_left}
 use Rattle.joining.specs.Answers as Answers
 use Rattle.joining.proofs.BestCases.{best_passed}
@@ -122,15 +121,15 @@ module _ (a b : List ℤ) where
       record { handed = record { steps = c.final; written = back ∙ c.final_shown; strip = c.best.is }; best = c.best }
 
   -- They begin: two accepted traces with room have a first best strip.
-  pub calls_begin : {strip work strip' work' : List ℕ} {r : Valued} → Pair a b → Enough a b strip work
-      → BestAnswer a b strip work strip' work' r → (v : ℤ) × (r ≡ Value v)
+  pub calls_begin : {strip work strip' work' : List ℕ} {r : Result ℤ Refusal} → Pair a b → Enough a b strip work
+      → BestAnswer a b strip work strip' work' r → (v : ℤ) × (r ≡ Ok v)
   calls_begin {strip = strip} {work = work} q room (Answers.BestAnswer.refused {r = r} x u) =
       absurd (stopped_not_passed (best_gates a b strip work) r x (best_passed q room))
   calls_begin q room (best p s f g c) = (W a b s, refl)
 
   -- None of them is refused while there is room.
   pub calls_go_on : {l : List (List ℕ)} {last strip work strip' work' : List ℕ} {r : Followed} → Going a b l last → shown a b strip ≡ last
-      → Enough a b strip work → NextAnswer a b strip work strip' work' r → ((v : ℤ) × (r ≡ Next v)) ⊎ (r ≡ NoneLeft)
+      → Enough a b strip work → NextAnswer a b strip work strip' work' r → ((v : ℤ) × (r ≡ Ok (Some v))) ⊎ (r ≡ Ok None)
   calls_go_on {strip = strip} {work = work} going back room (Answers.NextAnswer.refused {r = r} x u) =
       absurd (stopped_not_passed (next_gates a b strip work) r x (next_passed (chained going).pair room (handed_last going back)))
   calls_go_on going back room (next p s t f g c) = inl (W a b t, refl)
@@ -192,7 +191,7 @@ module _ (a b : List ℤ) where
 
     -- Begun with what `best` gave, the calls of any program that meets `next`'s contract reach "none left", and list all.
     pub calls_reach_the_end : {strip work strip' work' : List ℕ} {v : ℤ} → Enough a b strip work
-        → BestAnswer a b strip work strip' work' (Value v) → (l : List (List ℕ)) × (Ended a b l × Whole a b l)
+        → BestAnswer a b strip work strip' work' (Ok v) → (l : List (List ℕ)) × (Ended a b l × Whole a b l)
     calls_reach_the_end room (best q s f g c) =
         let e = reach (2 ^ strip_bytes a b) (begun (best q s f g c)) refl (given_room f.best.is room g c) (omega arith) in
         (e.0, (e.1, calls_list e.1))

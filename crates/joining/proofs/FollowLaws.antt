@@ -1,4 +1,5 @@
 -- `next`, from what its parts have done. Assumes nothing.
+use Rattle.std.specs.Prelude.{Result, Ok, Err, Some, None}
 use mathlib.Core.Path.{◌≡◌, refl, sym, ap, ap₂, ◌∙◌, subst, subst₂}
 use mathlib.Core.Bool.{Bool, true, false}
 use mathlib.Core.List.{List, ◌∷◌, ◌++◌}
@@ -29,9 +30,6 @@ use Rattle.strip.specs.Bytes.{bytes, IsStrip}
 use Rattle.strip.specs.Judging.{StripJudged}
 use Rattle.strip.proofs.JudgingLaws.{Refusing, traces, no_strip_lem, refusing}
 use Rattle.strip.specs.Judging as Judging
-use Rattle.strip.specs.declared.Valued.{Valued}
-use Rattle.joining.specs.declared.Followed.{Followed}
-use Rattle.joining.specs.declared.Followed.TheVariants.{Next, NoneLeft, Refused}
 use Rattle.joining.specs.Cells.{room}
 use Rattle.joining.specs.Table.{Tabled}
 use Rattle.joining.specs.Walking.{says_a, Turned, turned, left}
@@ -40,14 +38,10 @@ use Rattle.joining.proofs.NextCases.{below, next, none_left}
 use Rattle.joining.proofs.CellLaws.{room_all}
 use Rattle.joining.proofs.NextLaws.{turned_next, left_none}
 
-pub refused_is : {a b : List ℤ} {strip work strip' work' : List ℕ} {r : Followed} {q : Refusal} → r ≡ Refused q
-    → NextAnswer a b strip work strip' work' (Refused q) → NextAnswer a b strip work strip' work' r
-refused_is {a} {b} {strip} {work} {strip'} {work'} e x = subst (NextAnswer a b strip work strip' work') (sym e) x
-
 -- ---- what judging the strip handed in has told
 
-pub not_handed : {a b : List ℤ} {m n : ℕ} (l : List ℕ) {r : Valued} {q : Refusal} → PairCounts a b m n
-    → StripJudged a b (take (m + n) l) r → r ≡ Valued.Refused q → HandedIn a b l → ⊥
+pub not_handed : {a b : List ℤ} {m n : ℕ} (l : List ℕ) {r : Result ℤ Refusal} {q : Refusal} → PairCounts a b m n
+    → StripJudged a b (take (m + n) l) r → r ≡ Err q → HandedIn a b l → ⊥
 not_handed {a} {b} {m} {n} l p x e s = go (refusing (subst (StripJudged a b (take (m + n) l)) e x))
   where
     go : {q : Refusal} → Refusing a b (take (m + n) l) q → ⊥
@@ -60,12 +54,12 @@ pub record Handed (a b : List ℤ) (m n : ℕ) (l : List ℕ) (v : ℤ) : Type 0
   pub strip : IsStrip m n (take (m + n) l)
   pub is_value : v ≡ W a b strip.steps
 
-pub handed : {a b : List ℤ} {m n : ℕ} {l : List ℕ} {r : Valued} {v : ℤ} → PairCounts a b m n → StripJudged a b (take (m + n) l) r
-    → r ≡ Valued.Value v → Handed a b m n l v
-handed {v = v} p (Judging.refused x) e = absurd (clash e)
-  where
-    clash : {q : Refusal} → Valued.Refused q ≡ Valued.Value v → ⊥
-    clash e = let o : ◌≡◌ {A = ℕ} 0 1 = cc in omega arith
+abbrev valued : ℤ → Result ℤ Refusal
+valued v = Ok v
+
+pub handed : {a b : List ℤ} {m n : ℕ} {l : List ℕ} {r : Result ℤ Refusal} {v : ℤ} → PairCounts a b m n → StripJudged a b (take (m + n) l) r
+    → r ≡ Ok v → Handed a b m n l v
+handed {v = v} p (Judging.refused x) e = absurd (let o : ◌≡◌ {A = ℕ} 0 1 = cc in omega arith)
 handed {a} {b} {m} {n} {l} {v = v} p (Judging.accepted x s) e = record {
   strip = record {
     steps = s.steps;
@@ -75,7 +69,7 @@ handed {a} {b} {m} {n} {l} {v = v} p (Judging.accepted x s) e = record {
   is_value = sym (same e);
 }
   where
-    same : {u : ℤ} → Valued.Value u ≡ Valued.Value v → u ≡ v
+    same : {u : ℤ} → valued u ≡ valued v → u ≡ v
     same e = cc
 
 -- the same for the numbers of points themselves
@@ -96,7 +90,7 @@ attains {a} {b} p f =
 
 pub below_is : {a b : List ℤ} {m n : ℕ} {strip work l l' : List ℕ} {v g : ℤ} → PairCounts a b m n → Enough a b strip work
     → Handed a b m n strip v → Tabled (worths a b) m n l l' g → lt_z v g ≡ true
-    → NextAnswer a b strip work strip work (Refused (at Below 0))
+    → NextAnswer a b strip work strip work (Err (at Below 0))
 unfolding as_handed
 below_is {a} {b} {strip = strip} {v = v} {g = g} p e h f less =
     below p.pair e (as_handed strip p h.strip) (attained (worths a b) (count a) (count b)).0
@@ -125,14 +119,14 @@ parts_at {a} {b} {m} {n} {strip} {work} {strip'} {work'} {l} {l'} {v} {g} {turns
     subst₂ (λ (x y : ℕ). NextParts a b strip work strip' work' v g turns l l' x y) p.count_a p.count_b q
 
 pub next_done : {a b : List ℤ} {m n : ℕ} {strip work strip' work' l l' : List ℕ} {v g : ℤ} → PairCounts a b m n → Enough a b strip work
-    → NextParts a b strip work strip' work' v g true l l' m n → NextAnswer a b strip work strip' work' (Next g)
+    → NextParts a b strip work strip' work' v g true l l' m n → NextAnswer a b strip work strip' work' (Ok (Some g))
 unfolding as_handed
 next_done {a} {b} {m} {n} {strip} {work} {strip'} {work'} {l} {l'} {v} {g} p room-enough parts = go (parts_at p parts)
   where
     self : PairCounts a b (count a) (count b)
     self = record { pair = p.pair; count_a = refl; count_b = refl }
 
-    go : NextParts a b strip work strip' work' v g true l l' (count a) (count b) → NextAnswer a b strip work strip' work' (Next g)
+    go : NextParts a b strip work strip' work' v g true l l' (count a) (count b) → NextAnswer a b strip work strip' work' (Ok (Some g))
     go q = by q.turned
       where
         s : HandedIn a b strip
@@ -141,25 +135,25 @@ next_done {a} {b} {m} {n} {strip} {work} {strip'} {work'} {l} {l'} {v} {g} p roo
         is_best : Best (Strip (count a) (count b)) (W a b) q.handed.strip.steps
         is_best = best_of self q.handed q.filled q.not_less
 
-        by : Turned l' (count b) q.handed.strip.steps strip strip' true → NextAnswer a b strip work strip' work' (Next g)
+        by : Turned l' (count b) q.handed.strip.steps strip strip' true → NextAnswer a b strip work strip' work' (Ok (Some g))
         by (turned x z e y early front) =
             let t : List Step = trace (says_a l' (count b)) (length x) (suc (steps_a x)) (pred (steps_b x)) ++ B ∷ z in
             let after = turned_next q.filled is_best x z e y early in
-            subst (λ (u : ℤ). NextAnswer a b strip work strip' work' (Next u))
+            subst (λ (u : ℤ). NextAnswer a b strip work strip' work' (Ok (Some u)))
             (best_value (worths a b) after.best ∙ sym q.filled.value)
             (next p.pair room-enough s is_best t after
             (record { front = front ∙ ap (λ (k : ℕ). bytes t ++ drop k strip) (strip_length q.handed.strip.strip) })
             (record { zeros = q.zeros ∙ room_all (work_bytes a b) work work refl }))
 
 pub none_done : {a b : List ℤ} {m n : ℕ} {strip work strip' work' l l' : List ℕ} {v g : ℤ} → PairCounts a b m n → Enough a b strip work
-    → NextParts a b strip work strip' work' v g false l l' m n → NextAnswer a b strip work strip' work' NoneLeft
+    → NextParts a b strip work strip' work' v g false l l' m n → NextAnswer a b strip work strip' work' (Ok None)
 unfolding as_handed
 none_done {a} {b} {m} {n} {strip} {work} {strip'} {work'} {l} {l'} {v} {g} p room-enough parts = go (parts_at p parts)
   where
     self : PairCounts a b (count a) (count b)
     self = record { pair = p.pair; count_a = refl; count_b = refl }
 
-    go : NextParts a b strip work strip' work' v g false l l' (count a) (count b) → NextAnswer a b strip work strip' work' NoneLeft
+    go : NextParts a b strip work strip' work' v g false l l' (count a) (count b) → NextAnswer a b strip work strip' work' (Ok None)
     go q = by q.turned
       where
         s : HandedIn a b strip
@@ -168,7 +162,7 @@ none_done {a} {b} {m} {n} {strip} {work} {strip'} {work'} {l} {l'} {v} {g} p roo
         is_best : Best (Strip (count a) (count b)) (W a b) q.handed.strip.steps
         is_best = best_of self q.handed q.filled q.not_less
 
-        by : Turned l' (count b) q.handed.strip.steps strip strip' false → NextAnswer a b strip work strip' work' NoneLeft
+        by : Turned l' (count b) q.handed.strip.steps strip strip' false → NextAnswer a b strip work strip' work' (Ok None)
         by (left none same) =
             none_left p.pair room-enough s is_best (left_none q.filled is_best none) same
             (record { zeros = q.zeros ∙ room_all (work_bytes a b) work work refl })

@@ -1,5 +1,5 @@
 -- `list_best`, from what its parts have done. Assumes nothing.
-use mathlib.Core.Path.{◌≡◌, sym, ◌∙◌, subst, subst₂}
+use mathlib.Core.Path.{◌≡◌, sym, ◌∙◌, subst₂}
 use mathlib.Core.Bool.{Bool}
 use mathlib.Core.List.{List, ◌++◌}
 use Prim.Native.Nat.{ℕ, ◌+◌, ◌*◌, ◌/◌, ◌≤◌, ◌<◌}
@@ -7,7 +7,6 @@ use native.Mathlib.Nat.{div-lt_iff_lt-mul}
 use native.Mathlib.Omega.{arith}
 use lib.IntN.{ℤ}
 use lib.ListN.{length, drop, replicate}
-use Rattle.fault.specs.declared.Refusal.{Refusal}
 use Rattle.trace.specs.Points.{count}
 use Rattle.strip.specs.Pair.{PairCounts}
 use Rattle.ways.specs.Strip.{Step}
@@ -15,8 +14,7 @@ use Rattle.ways.specs.Keppel.{traced}
 use Rattle.ways.proofs.Greatest.{attained}
 use Rattle.ways.proofs.Traced.{traced_first}
 use Rattle.strip.specs.Worth.{worths, W}
-use Rattle.joining.specs.declared.Run.{Run}
-use Rattle.joining.specs.declared.Run.TheVariants.{Lines, Refused}
+use Rattle.joining.specs.Listing.{Ran, run_of}
 use Rattle.joining.specs.declared.lines.Counted.{Counted}
 use Rattle.joining.specs.Cells.{room}
 use Rattle.joining.specs.Table.{Tabled}
@@ -26,10 +24,6 @@ use Rattle.joining.proofs.ListCases.{listed}
 use Rattle.joining.specs.Listing as Listing
 use Rattle.joining.specs.Lines.{BeginningOf, all, some, WroteLines}
 use Rattle.joining.proofs.CellLaws.{room_all}
-
-pub refused_as : {a b : List ℤ} {limit : ℕ} {lines work lines' work' : List ℕ} {r : Run} {q : Refusal} → r ≡ Refused q
-    → ListAnswer a b limit lines work lines' work' (Refused q) → ListAnswer a b limit lines work lines' work' r
-refused_as {a} {b} {limit} {lines} {work} {lines'} {work'} e x = subst (ListAnswer a b limit lines work lines' work') (sym e) x
 
 -- ---- the room: a quotient says whether `limit` strips fit, and no product can overflow
 
@@ -77,16 +71,16 @@ begins (some s rest x h) = Listing.some s rest x h
 
 pub list_done : {a b : List ℤ} {m n limit : ℕ} {lines work lines' work₁ work' : List ℕ} {g : ℤ} {r : Counted} → PairCounts a b m n
     → EnoughLines a b limit lines work → ListParts a b limit lines work lines' work₁ work' g r m n
-    → ListAnswer a b limit lines work lines' work' (Lines g r.count r.more)
+    → ListAnswer a b limit lines work lines' work' (run_of g r.count r.more)
 list_done {a} {b} {m} {n} {limit} {lines} {work} {lines'} {work₁} {work'} {g} {r} p room-enough parts =
     go (subst₂ (λ (x y : ℕ). ListParts a b limit lines work lines' work₁ work' g r x y) p.count_a p.count_b parts)
   where
     go : ListParts a b limit lines work lines' work₁ work' g r (count a) (count b)
-        → ListAnswer a b limit lines work lines' work' (Lines g r.count r.more)
+        → ListAnswer a b limit lines work lines' work' (run_of g r.count r.more)
     go q =
         let w = worths a b in
         let s = traced w (count a) (count b) in
         let value : g ≡ W a b s = q.filled.value ∙ sym (attained w (count a) (count b)).1 in
-        subst₂ (λ (v : ℤ) (k : ℕ). ListAnswer a b limit lines work lines' work' (Lines v k r.more)) (sym value) (sym q.written.counted)
+        subst₂ (λ (v : ℤ) (k : ℕ). ListAnswer a b limit lines work lines' work' (run_of v k r.more)) (sym value) (sym q.written.counted)
         (listed p.pair room-enough q.written.strips (begins q.written.beginning) q.written.front
         (record { zeros = q.zeros ∙ room_all (work_bytes a b) work work₁ q.filled.rest }) s (traced_first w (count a) (count b)).best)

@@ -1,4 +1,6 @@
 -- Turning a best strip into the next one, and `next` from what its parts have done. Assumes nothing.
+use Rattle.std.specs.Option.{is_some}
+use Rattle.std.specs.Prelude.{Option, Some, None}
 use mathlib.Core.Path.{◌≡◌, sym, ap, ap₂, ◌∙◌, subst}
 use mathlib.Core.Bool.{true, false}
 use mathlib.Core.List.{List, ◌∷◌, ◌++◌, append_assoc, map-append}
@@ -19,11 +21,10 @@ use Rattle.ways.proofs.Traced.{next_by_turn, none_by_turn}
 use Rattle.ways.proofs.TopLaws.{also_b_left}
 use Rattle.strip.specs.Bytes.{bytes, byte_of, IsStrip}
 use Rattle.strip.proofs.BytesLaws.{bytes_length}
-use Rattle.joining.specs.declared.walking.Turning.{Turning}
-use Rattle.joining.specs.declared.walking.Turning.TheVariants.{Turn, Nowhere}
+use Rattle.joining.specs.declared.walking.Turn.{Turn}
 use Rattle.joining.specs.Cells.{room}
 use Rattle.joining.specs.Table.{Tabled}
-use Rattle.joining.specs.Walking.{says_a, says_b, TurnOf, turn, nowhere, Marked, Turned, turned}
+use Rattle.joining.specs.Walking.{says_a, says_b, TurnOf, turn, nowhere, CanTurn, can, cannot, Marked, Turned, turned}
 use Rattle.joining.proofs.MarkLaws.{says_b_lem, filled_leads, filled_trace}
 use Rattle.joining.proofs.TurnLaws.{counts_a}
 
@@ -39,29 +40,34 @@ pub record IsTurn (l : List ℕ) (n : ℕ) (t : List Step) (at i j : ℕ) : Type
   pub is_i : i ≡ suc (steps_a x)
   pub is_j : j ≡ steps_b x
 
-pub is_turn : {l : List ℕ} {n : ℕ} {t : List Step} {r : Turning} {at i j : ℕ} → TurnOf l n t r → r ≡ Turn at i j → IsTurn l n t at i j
-is_turn {at = at} {i = i} {j = j} (turn x z p y e) q = record {
+abbrev some_turn : Turn → Option Turn
+some_turn u = Some u
+
+pub is_turn : {l : List ℕ} {n : ℕ} {t : List Step} {r : Option Turn} {u : Turn} → TurnOf l n t r → r ≡ Some u → IsTurn l n t u.at u.i u.j
+is_turn {u = u} (turn x z p y e) q = record {
   x = x;
   z = z;
   parts = p;
   yes_b = y;
   earlier = e;
-  is_at = cc;
-  is_i = cc;
-  is_j = cc;
+  is_at = sym (ap (λ (v : Turn). v.at) (same q));
+  is_i = sym (ap (λ (v : Turn). v.i) (same q));
+  is_j = sym (ap (λ (v : Turn). v.j) (same q));
 }
-is_turn {at = at} {i = i} {j = j} (nowhere n) q = absurd (clash q)
   where
-    clash : Nowhere ≡ Turn at i j → ⊥
-    clash q = let o : ◌≡◌ {A = ℕ} 0 1 = cc in omega arith
+    same : {v : Turn} → some_turn v ≡ some_turn u → v ≡ u
+    same q = cc
+is_turn {u = u} (nowhere n) q = absurd (let o : ◌≡◌ {A = ℕ} 0 1 = cc in omega arith)
 
-pub is_nowhere : {l : List ℕ} {n : ℕ} {t : List Step} {r : Turning} → TurnOf l n t r → r ≡ Nowhere
+pub is_nowhere : {l : List ℕ} {n : ℕ} {t : List Step} {r : Option Turn} → TurnOf l n t r → r ≡ None
     → (x z : List Step) → t ≡ x ++ A ∷ z → says_b l n (suc (steps_a x)) (steps_b x) ≡ false
-is_nowhere (turn x z p y e) q = absurd (clash x q)
-  where
-    clash : (x : List Step) → Turn (length x) (suc (steps_a x)) (steps_b x) ≡ Nowhere → ⊥
-    clash x q = let o : ◌≡◌ {A = ℕ} 0 1 = cc in omega arith
+is_nowhere (turn x z p y e) q = absurd (let o : ◌≡◌ {A = ℕ} 0 1 = cc in omega arith)
 is_nowhere (nowhere n) q = n
+
+-- whether it can be turned at all
+pub can_turn_is : {l : List ℕ} {n : ℕ} {t : List Step} {r : Option Turn} → TurnOf l n t r → CanTurn l n t (is_some r)
+can_turn_is (turn x z p y e) = can x z p y e
+can_turn_is (nowhere n) = cannot n
 
 -- the pair that is turned into lies inside, and not in the first column
 pub record TurnInside (m n at i j : ℕ) : Type 0 where

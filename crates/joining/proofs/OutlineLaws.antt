@@ -6,18 +6,16 @@ use Prim.Native.Nat.{ℕ, ◌+◌, ◌*◌}
 use native.Mathlib.Omega.{arith}
 use lib.IntN.{ℤ}
 use mir.Val.{bool_byte}
-use Rattle.whole.proofs.Bounds.{between_sub}
 use Rattle.trace.specs.Points.{count}
 use Rattle.trace.specs.Faults.{Accepted}
 use Rattle.trace.specs.declared.outline.Outline.{Outline}
 use Rattle.trace.specs.Outline.{fairly, Outlined}
-use Rattle.trace.proofs.PointLaws.{accepted_x, accepted_y}
-use Rattle.trace.proofs.OutlineLaws.{fairly_same, follows_within}
+use Rattle.trace.proofs.OutlineLaws.{fairly_same, accepted_ranged, corner_within}
 use Rattle.strip.specs.Worth.{worths}
 use Rattle.ways.specs.Value.{Worths}
 use Rattle.ways.proofs.TopLaws.{Agree, top_agree, pointer_agree, also_b_agree}
-use Rattle.strip.specs.Arrays.{worths_of}
-use Rattle.strip.proofs.ArrayLaws.{arrays_of, outline_A, outline_B}
+use Rattle.strip.specs.Outlines.{worths_of}
+use Rattle.strip.proofs.StepLaws.{outline_A, outline_B}
 use Rattle.joining.specs.Table.{Bounded, mark_of, Tabled}
 
 -- ---- a trace
@@ -25,17 +23,12 @@ use Rattle.joining.specs.Table.{Bounded, mark_of, Tabled}
 pub accepted_outline : {c : List ℤ} {p : Outline} → Accepted c → Outlined (fairly c) p → Outlined c p
 accepted_outline {p = p} a o = subst (λ (l : List ℤ). Outlined l p) (fairly_same a) o
 
-pub outline_bounded : {c : List ℤ} {p : Outline} → Accepted c → Outlined c p → Bounded (arrays_of p)
-outline_bounded a o = record {
-  x = follows_within o.x (accepted_x a);
-  y = follows_within o.y (accepted_y a);
-  dx = follows_within o.dx (λ k. between_sub (accepted_x a (k + 1)) (accepted_x a k));
-  dy = follows_within o.dy (λ k. between_sub (accepted_y a (k + 1)) (accepted_y a k));
-}
+pub outline_bounded : {c : List ℤ} {p : Outline} → Accepted c → Outlined c p → Bounded p
+outline_bounded a o = corner_within (accepted_ranged a) o
 
 -- ---- two traces
 
-pub outlines_agree : {a b : List ℤ} {p q : Outline} → Outlined a p → Outlined b q → Agree (worths_of (arrays_of p) (arrays_of q)) (worths a b) (count a) (count b)
+pub outlines_agree : {a b : List ℤ} {p q : Outline} → Outlined a p → Outlined b q → Agree (worths_of p q) (worths a b) (count a) (count b)
 outlines_agree o u = record { on_a = outline_A o u; on_b = outline_B o u }
 
 -- ---- as the functions hand them over, with m for the number of points

@@ -18,18 +18,20 @@ use Rattle.ways.specs.Keppel.{top, pointer, also_b, maxℤ}
 use Rattle.ways.proofs.TopLaws.{top_left, top_cell, pointer_cell, also_b_cell, pointer_left, also_b_left, top_within}
 use Rattle.joining.specs.Cells.{cell_of, room, Put}
 use Rattle.joining.proofs.CellLaws.{room_fits}
-use Rattle.strip.specs.Arrays.{Arrays, worths_of}
+use Rattle.trace.specs.declared.outline.Outline.{Outline}
+use Rattle.trace.specs.Outline.{corner}
+use Rattle.strip.specs.Outlines.{worths_of}
 use Rattle.joining.specs.Table.{Bounded, mark_of, CellReady, CellDone, RowAt, RowMarked, Ready}
 
 -- ---- the table's values are far inside an i64
 
-pub values_within : {p q : Arrays} → Bounded p → Bounded q → (i j : ℕ) → i ≤ 250 → j ≤ 250
+pub values_within : (p q : Outline) → Bounded p → Bounded q → (i j : ℕ) → i ≤ 250 → j ≤ 250
     → Within 1000000000000000 (top (worths_of p q) i j)
-values_within {p} {q} b d i j h k =
+values_within p q b d i j h k =
     between_wider (omega arith) (omega arith)
     (top_within (worths_of p q) 40000000000
-    (λ i j. between_sub (between_mul (d.x j) (b.dy i)) (between_mul (d.y j) (b.dx i)))
-    (λ i j. between_sub (between_mul (b.x i) (d.dy j)) (between_mul (b.y i) (d.dx j)))
+    (λ i j. between_sub (between_mul (d j).x (b i).dy) (between_mul (d j).y (b i).dx))
+    (λ i j. between_sub (between_mul (b i).x (d j).dy) (between_mul (b i).y (d j).dx))
     i j)
 
 -- ---- marks, in the code's terms
@@ -77,24 +79,24 @@ row_begun w i n at row v work work' h r e p = record {
         ∙ mark_cell w (i + 1) 0 true false (sym (pointer_left w i)) (sym (also_b_left w (i + 1))) ∙ ap (mark_of w (i + 1)) (sym q)
 
 -- what the next pair asks
-pub row_ready : (p q : Arrays) (i n at j : ℕ) (row : List ℤ) (work₀ work : List ℕ) → Ready p q (i + 1) n work₀
-    → at ≡ (i + 1) * (n + 1) → RowSo (worths_of p q) i n at j row work₀ work → j < n → CellReady p q i j at row work
+pub row_ready : (p q : Outline) (i n at j : ℕ) (row : List ℤ) (work₀ work : List ℕ) → Ready p q (i + 1) n work₀
+    → at ≡ (i + 1) * (n + 1) → RowSo (worths_of p q) i n at j row work₀ work → j < n → CellReady (corner p i) (corner p (i + 1)) q j at row work
 row_ready p q i n at j row work₀ work r e s h = record {
-  bounded = r.bounded;
-  bounded' = r.bounded';
-  in_i = omega (arith, r.few_a);
+  from_bounded = r.bounded i;
+  to_bounded = r.bounded (i + 1);
+  bounded = r.bounded';
   in_j = omega (arith, r.few_b);
   in_cells = omega (arith, cells_few (i + 1) n r.few_a r.few_b);
   in_work = room_fits {b = (i + 1 + 1) * (n + 1)} (omega arith) (omega (arith, r.enough, s.long));
   up = subst (Within 1000000000000000) (sym (s.todo (j + 1) (omega arith) (omega arith)))
-      (values_within r.bounded r.bounded' i (j + 1) (omega (arith, r.few_a)) (omega (arith, r.few_b)));
+      (values_within p q r.bounded r.bounded' i (j + 1) (omega (arith, r.few_a)) (omega (arith, r.few_b)));
   left = subst (Within 1000000000000000) (sym (s.done j (omega arith)))
-      (values_within r.bounded r.bounded' (i + 1) j (omega (arith, r.few_a)) (omega (arith, r.few_b)));
+      (values_within p q r.bounded r.bounded' (i + 1) j (omega (arith, r.few_a)) (omega (arith, r.few_b)));
 }
 
 -- one pair more
-pub row_more : (p q : Arrays) (i n at j : ℕ) (row : List ℤ) (work₀ work : List ℕ) (row' : List ℤ) (work' : List ℕ) → n ≤ 250
-    → RowSo (worths_of p q) i n at j row work₀ work → j < n → CellDone p q i j at row work row' work'
+pub row_more : (p q : Outline) (i n at j : ℕ) (row : List ℤ) (work₀ work : List ℕ) (row' : List ℤ) (work' : List ℕ) → n ≤ 250
+    → RowSo (worths_of p q) i n at j row work₀ work → j < n → CellDone (corner p i) (corner p (i + 1)) q j at row work row' work'
     → RowSo (worths_of p q) i n at (j + 1) row' work₀ work'
 row_more p q i n at j row work₀ work row' work' few s h d = record {
   inside = omega arith;
@@ -147,13 +149,13 @@ row_done w i n at row work work₁ work' e p s = (
 )
 
 -- a value of the row above
-pub row_within : (p q : Arrays) (i n j : ℕ) (row : List ℤ) (work : List ℕ) → Ready p q (i + 1) n work → RowAt (worths_of p q) i n row → j ≤ n
+pub row_within : (p q : Outline) (i n j : ℕ) (row : List ℤ) (work : List ℕ) → Ready p q (i + 1) n work → RowAt (worths_of p q) i n row → j ≤ n
     → Within 1000000000000000 (get_or row j (pos 0))
 row_within p q i n j row work r a h =
     subst (Within 1000000000000000) (sym (a.values j h))
-    (values_within r.bounded r.bounded' i j (omega (arith, r.few_a)) (omega (arith, r.few_b)))
+    (values_within p q r.bounded r.bounded' i j (omega (arith, r.few_a)) (omega (arith, r.few_b)))
 
-pub ready_put : {p q : Arrays} {m n : ℕ} {work work' : List ℕ} {k mark : ℕ} → Ready p q m n work → Put work k mark work' → Ready p q m n work'
+pub ready_put : {p q : Outline} {m n : ℕ} {work work' : List ℕ} {k mark : ℕ} → Ready p q m n work → Put work k mark work' → Ready p q m n work'
 ready_put r p = record {
   bounded = r.bounded;
   bounded' = r.bounded';

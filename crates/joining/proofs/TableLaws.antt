@@ -2,8 +2,8 @@
 -- all rows before it, so marking a row leaves theirs. Assumes nothing.
 use mathlib.Core.Path.{◌≡◌, refl, sym, ap, ◌∙◌, subst}
 use mathlib.Core.Bool.{true, false}
-use mathlib.Core.List.{List, []}
-use Prim.Native.Nat.{ℕ, zero, suc, ◌+◌, ◌*◌, ◌≤◌, ◌<◌}
+use mathlib.Core.List.{List}
+use Prim.Native.Nat.{ℕ, ◌+◌, ◌*◌, ◌≤◌, ◌<◌}
 use native.Mathlib.Decide.{ℕ_discrete}
 use native.Mathlib.Nat.{mul-le-mul_right}
 use native.Mathlib.Omega.{arith}
@@ -11,12 +11,13 @@ use lib.IntN.{ℤ, pos, ◌+ℤ◌}
 use lib.ListN.{length, get_or, drop, set, length-set}
 use lib.Seq.{get_or-set_same, get_or-set_other}
 use Rattle.whole.specs.Between.{Within}
-use Rattle.whole.proofs.Bounds.{zero_within}
 use Rattle.ways.specs.Value.{Worths}
-use Rattle.ways.specs.Keppel.{top, pointer, also_b}
-use Rattle.ways.proofs.TopLaws.{Agree, top_agree, top_origin, top_first, pointer_first, also_b_left, also_b_first}
+use Rattle.ways.specs.Keppel.{top}
+use Rattle.ways.proofs.TopLaws.{top_origin, top_first, pointer_first, also_b_left, also_b_first}
 use Rattle.joining.specs.Cells.{cell_of, room, Put}
-use Rattle.strip.specs.Arrays.{Arrays, arrays, worths_of}
+use Rattle.trace.specs.declared.outline.Outline.{Outline}
+use Rattle.trace.specs.Outline.{corner}
+use Rattle.strip.specs.Outlines.{worths_of}
 use Rattle.joining.specs.Table.{mark_of, cell_at, BorderReady, BorderDone, RowAt, RowMarked, Ready, Tabled}
 use Rattle.joining.proofs.CellLaws.{room_fits}
 use Rattle.joining.proofs.RowLaws.{values_within, mark_cell}
@@ -49,19 +50,19 @@ first_begun w n row work work' e p = record {
     mark : (k : ℕ) → k ≡ 0 → cell_of work' k ≡ mark_of w 0 k
     mark k q = ap (cell_of work') q ∙ p.here ∙ mark_cell w 0 0 false false (sym (pointer_first w 0)) (sym (also_b_left w 0)) ∙ ap (mark_of w 0) (sym q)
 
-pub first_ready : (p q : Arrays) (n j : ℕ) (row : List ℤ) (work₀ work : List ℕ) → Ready p q 0 n work₀
-    → FirstSo (worths_of p q) n j row work₀ work → j < n → BorderReady p q j row work
+pub first_ready : (p q : Outline) (n j : ℕ) (row : List ℤ) (work₀ work : List ℕ) → Ready p q 0 n work₀
+    → FirstSo (worths_of p q) n j row work₀ work → j < n → BorderReady (corner p 0) q j row work
 first_ready p q n j row work₀ work r s h = record {
-  bounded = r.bounded;
-  bounded' = r.bounded';
+  first_bounded = r.bounded 0;
+  bounded = r.bounded';
   in_j = omega (arith, r.few_b);
   in_work = room_fits {b = (0 + 1) * (n + 1)} (omega arith) (omega (arith, r.enough, s.long));
   left = subst (Within 1000000000000000) (sym (s.done j (omega arith)))
-      (values_within r.bounded r.bounded' 0 j (omega arith) (omega (arith, r.few_b)));
+      (values_within p q r.bounded r.bounded' 0 j (omega arith) (omega (arith, r.few_b)));
 }
 
-pub first_more : (p q : Arrays) (n j : ℕ) (row : List ℤ) (work₀ work : List ℕ) (row' : List ℤ) (work' : List ℕ) → n ≤ 250
-    → FirstSo (worths_of p q) n j row work₀ work → j < n → BorderDone p q j row work row' work'
+pub first_more : (p q : Outline) (n j : ℕ) (row : List ℤ) (work₀ work : List ℕ) (row' : List ℤ) (work' : List ℕ) → n ≤ 250
+    → FirstSo (worths_of p q) n j row work₀ work → j < n → BorderDone (corner p 0) q j row work row' work'
     → FirstSo (worths_of p q) n (j + 1) row' work₀ work'
 first_more p q n j row work₀ work row' work' few s h d = record {
   inside = omega arith;
@@ -116,35 +117,19 @@ pub record TableSo (w : Worths) (m n i : ℕ) (row : List ℤ) (work₀ work : L
   pub marks : (k j : ℕ) → k ≤ i → j ≤ n → cell_of work (cell_at n k j) ≡ mark_of w k j
   pub rest : drop (room ((m + 1) * (n + 1))) work ≡ drop (room ((m + 1) * (n + 1))) work₀
 
--- the first row needs only A's first point and B's segments
-pub first_whole : (p q : Arrays) (m n : ℕ) (row : List ℤ) (work work' : List ℕ)
-    → RowAt (worths_of (arrays p.x p.y [] []) (arrays [] [] q.dx q.dy)) 0 n row
-    → RowMarked (worths_of (arrays p.x p.y [] []) (arrays [] [] q.dx q.dy)) 0 n work work'
-    → TableSo (worths_of p q) m n 0 row work' work'
-unfolding mark_of pointer also_b
+-- the first row
+pub first_whole : (p q : Outline) (m n : ℕ) (row : List ℤ) (work work' : List ℕ) → RowAt (worths_of p q) 0 n row
+    → RowMarked (worths_of p q) 0 n work work' → TableSo (worths_of p q) m n 0 row work' work'
 first_whole p q m n row work work' r s = record {
   inside = omega arith;
-  rolling = record { long = r.long; values = λ j h. r.values j h ∙ top_agree same 0 j (omega arith) h };
+  rolling = r;
   long = refl;
   marks = λ k j h l. mark k j (omega arith) l;
   rest = refl;
 }
   where
-    v : Worths
-    v = worths_of (arrays p.x p.y [] []) (arrays [] [] q.dx q.dy)
-
-    same : Agree v (worths_of p q) 0 n
-    same = record { on_a = λ i j h l. absurd (none i h); on_b = λ i j h l. refl }
-      where
-        none : (i : ℕ) → i < 0 → ⊥
-        none i h = omega arith
-
-    alike : (j : ℕ) → mark_of v 0 j ≡ mark_of (worths_of p q) 0 j
-    alike zero = refl
-    alike (suc j) = refl
-
     mark : (k j : ℕ) → k ≡ 0 → j ≤ n → cell_of work' (cell_at n k j) ≡ mark_of (worths_of p q) k j
-    mark k j e l = subst (λ (k : ℕ). cell_of work' (cell_at n k j) ≡ mark_of (worths_of p q) k j) (sym e) (s.marks j l ∙ alike j)
+    mark k j e l = subst (λ (k : ℕ). cell_of work' (cell_at n k j) ≡ mark_of (worths_of p q) k j) (sym e) (s.marks j l)
 
 pub table_more : (w : Worths) (m n i : ℕ) (row : List ℤ) (work₀ work : List ℕ) (row' : List ℤ) (work' : List ℕ)
     → TableSo w m n i row work₀ work → i < m → RowAt w (i + 1) n row' → RowMarked w (i + 1) n work work'
@@ -162,7 +147,7 @@ table_more w m n i row work₀ work row' work' s h r d = record {
     mark k j l g (no e) =
         d.earlier (cell_at n k j) (omega (arith, mul-le-mul_right {m = k} {n = i} (n + 1) (omega arith))) ∙ s.marks k j (omega arith) g
 
-pub table_done : (w : Worths) {u : Worths} (m n i : ℕ) (row : List ℤ) (work work₁ work' : List ℕ) (v : ℤ) → m ≤ i → RowMarked u 0 n work work₁
+pub table_done : (w : Worths) (m n i : ℕ) (row : List ℤ) (work work₁ work' : List ℕ) (v : ℤ) → m ≤ i → RowMarked w 0 n work work₁
     → TableSo w m n i row work₁ work'
     → v ≡ get_or row n (pos 0) → Tabled w m n work work' v
 table_done w m n i row work work₁ work' v h d s e = record {
@@ -174,17 +159,16 @@ table_done w m n i row work work₁ work' v h d s e = record {
 
 -- ---- what the rows ask
 
-pub ready_first : (p q : Arrays) (m n : ℕ) (work : List ℕ) → Ready p q m n work
-    → Ready (arrays p.x p.y [] []) (arrays [] [] q.dx q.dy) 0 n work
+pub ready_first : (p q : Outline) (m n : ℕ) (work : List ℕ) → Ready p q m n work → Ready p q 0 n work
 ready_first p q m n work r = record {
-  bounded = record { x = r.bounded.x; y = r.bounded.y; dx = λ k. zero_within 200000; dy = λ k. zero_within 200000 };
-  bounded' = record { x = λ k. zero_within 100000; y = λ k. zero_within 100000; dx = r.bounded'.dx; dy = r.bounded'.dy };
+  bounded = r.bounded;
+  bounded' = r.bounded';
   few_a = omega arith;
   few_b = r.few_b;
   enough = room_fits {b = (m + 1) * (n + 1)} (omega arith) r.enough;
 }
 
-pub ready_row : (p q : Arrays) (m n i : ℕ) (work work' : List ℕ) → Ready p q m n work → length work' ≡ length work → i < m
+pub ready_row : (p q : Outline) (m n i : ℕ) (work work' : List ℕ) → Ready p q m n work → length work' ≡ length work → i < m
     → Ready p q (i + 1) n work'
 ready_row p q m n i work work' r e h = record {
   bounded = r.bounded;

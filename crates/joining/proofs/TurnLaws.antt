@@ -1,5 +1,6 @@
 -- Looking along a strip for the earliest step that can be turned: up to step k none can, and the pair reached counts the steps so
 -- far. Assumes nothing.
+use Rattle.std.specs.Prelude.{Option, Some, None}
 use mathlib.Core.Path.{◌≡◌, refl, sym, ap, ap₂, ◌∙◌, subst}
 use mathlib.Core.Bool.{true, false}
 use mathlib.Core.List.{List, [], ◌∷◌, ◌++◌, append_assoc, map-append}
@@ -17,7 +18,7 @@ use Rattle.ways.proofs.Greatest.{strip_length}
 use Rattle.strip.specs.Bytes.{bytes, byte_of, IsStrip}
 use Rattle.strip.proofs.BytesLaws.{bytes_length}
 use Rattle.joining.specs.declared.walking.Look.{Look}
-use Rattle.joining.specs.declared.walking.Turning.TheVariants.{Turn, Nowhere}
+use Rattle.joining.specs.declared.walking.Turn.{Turn}
 use Rattle.joining.specs.Cells.{room}
 use Rattle.joining.specs.Table.{cell_at}
 use Rattle.joining.specs.Walking.{says_b, TurnOf, turn, nowhere, Looked, LookReady}
@@ -175,22 +176,25 @@ turn_more {l} {n} {t} {k} {i} {j} {byte} {r} so p look no-turn = go p.step p.res
         at x z d h (yes c) = absurd (clash z rest (same_split t x z so.pre rest B d e (c ∙ sym so.long)).1)
         at x z d h (no c) = so.none x z d (omega arith)
 
+abbrev pub turn_at : ℕ → ℕ → ℕ → Option Turn
+turn_at at i j = Some (record { at = at; i = i; j = j })
+
 pub turn_found : {l : List ℕ} {n : ℕ} {t : List Step} {k i j byte : ℕ} {r : Look} (so : TurnSo l n t k i j) → StepAt t so.pre byte
-    → Looked l n byte i j r → r.turns ≡ true → TurnOf l n t (Turn k r.i r.j)
+    → Looked l n byte i j r → r.turns ≡ true → TurnOf l n t (turn_at k r.i r.j)
 turn_found {l} {n} {t} {k} {i} {j} {byte} {r} so p look turns = go p.step p.rest p.parts p.is_byte
   where
-    go : (y : Step) (rest : List Step) → t ≡ so.pre ++ y ∷ rest → byte ≡ byte_of y → TurnOf l n t (Turn k r.i r.j)
+    go : (y : Step) (rest : List Step) → t ≡ so.pre ++ y ∷ rest → byte ≡ byte_of y → TurnOf l n t (turn_at k r.i r.j)
     go A rest e q =
         let on = look.on_a q in
         let upI : r.i ≡ suc (steps_a so.pre) = on.0 ∙ add-one i ∙ ap suc so.is_i in
         let upJ : r.j ≡ steps_b so.pre = on.1 ∙ so.is_j in
-        let same : Turn (length so.pre) (suc (steps_a so.pre)) (steps_b so.pre) ≡ Turn k r.i r.j = cc (so.long, upI, upJ) in
+        let same : turn_at (length so.pre) (suc (steps_a so.pre)) (steps_b so.pre) ≡ turn_at k r.i r.j = cc (so.long, upI, upJ) in
         subst (TurnOf l n t) same
         (turn so.pre rest e
         (ap₂ (says_b l n) (sym (ap suc so.is_i) ∙ sym (add-one i)) (sym so.is_j) ∙ sym on.2 ∙ turns)
         (λ x z d h. so.none x z d (omega (arith, so.long))))
     go B rest e q = absurd (true≢false (sym turns ∙ (look.on_b q).2))
 
-pub turn_none : {l : List ℕ} {m n : ℕ} {t : List Step} {k i j : ℕ} → Strip m n t → m + n ≤ k → TurnSo l n t k i j → TurnOf l n t Nowhere
+pub turn_none : {l : List ℕ} {m n : ℕ} {t : List Step} {k i j : ℕ} → Strip m n t → m + n ≤ k → TurnSo l n t k i j → TurnOf l n t None
 turn_none {t = t} r h so =
     nowhere (λ x z e. so.none x z e (omega (arith, strip_length r, ap length e, length-append x (A ∷ z))))

@@ -1,5 +1,5 @@
 -- Demands 2 and 3; 01, "What comes back" and "Room for a pair": what `best` and `next` answer, and every lent byte.
-use Rattle.std.specs.Prelude.{◌≡◌, List, [], ◌∷◌, ◌++◌, ℕ, ◌+◌, ◌*◌, ◌≤◌, length, take, drop, replicate, ℤ}
+use Rattle.std.specs.Prelude.{◌≡◌, List, [], ◌∷◌, ◌++◌, ℕ, ◌+◌, ◌*◌, ◌≤◌, length, take, drop, replicate, ℤ, Result, Option, Ok, Err, Some, None}
 use Rattle.fault.specs.declared.Refusal.{Refusal}
 use Rattle.fault.specs.declared.Fault.TheVariants.{Room, Strip, Below}
 use Rattle.trace.specs.Points.{count}
@@ -11,10 +11,6 @@ use Rattle.ways.specs.Best.{Best, FirstBest, NextBest}
 use Rattle.ways.specs.Best as Ways-best
 use Rattle.strip.specs.Worth.{value_of}
 use Rattle.strip.specs.Bytes.{bytes, IsStrip}
-use Rattle.strip.specs.declared.Valued.{Valued}
-use Rattle.strip.specs.declared.Valued.TheVariants.{Value}
-use Rattle.joining.specs.declared.Followed.{Followed}
-use Rattle.joining.specs.declared.Followed.TheVariants.{Next, NoneLeft, Refused}
 
 -- the strips between two traces, and what best, first, next and none left mean for them: the value is Keppel's sum
 abbrev pub Between : List ℤ → List ℤ → List Step → Type 0
@@ -68,11 +64,15 @@ pub record HandedBest (a b : List ℤ) (strip : List ℕ) : Type 0 where
 abbrev pub best_gates : List ℤ → List ℤ → List ℕ → List ℕ → List Gate
 best_gates a b strip work = PairRefused a b ∷ unless Room (Enough a b strip work) ∷ []
 
-pub data BestAnswer (a b : List ℤ) (strip work strip' work' : List ℕ) : Valued → Type 0 where
+pub data BestAnswer (a b : List ℤ) (strip work strip' work' : List ℕ) : Result ℤ Refusal → Type 0 where
   refused : {r : Refusal} → Stopped (best_gates a b strip work) r → Untouched strip work strip' work'
-      → BestAnswer a b strip work strip' work' (Valued.Refused r)
+      → BestAnswer a b strip work strip' work' (Err r)
   best : Passed (best_gates a b strip work) → (s : List Step) → FirstOf a b s → Given a b s strip strip' → Cleared a b work work'
-      → BestAnswer a b strip work strip' work' (Value (value_of a b s))
+      → BestAnswer a b strip work strip' work' (Ok (value_of a b s))
+
+-- the value of a next strip, or none left; or a refusal
+abbrev pub Followed : Type 0
+Followed = Result (Option ℤ) Refusal
 
 -- `next`: the traces, then ROOM, STRIP, BELOW; else the strip that comes next after the one handed in, in its place, with the greatest
 -- value; or none left. "The strip handed in for a next one stands at the front of its slice".
@@ -82,8 +82,8 @@ next_gates a b strip work =
 
 pub data NextAnswer (a b : List ℤ) (strip work strip' work' : List ℕ) : Followed → Type 0 where
   refused : {r : Refusal} → Stopped (next_gates a b strip work) r → Untouched strip work strip' work'
-      → NextAnswer a b strip work strip' work' (Refused r)
+      → NextAnswer a b strip work strip' work' (Err r)
   next : Passed (next_gates a b strip work) → (s : HandedBest a b strip) → (t : List Step) → NextOf a b s.handed.steps t
-      → Given a b t strip strip' → Cleared a b work work' → NextAnswer a b strip work strip' work' (Next (value_of a b t))
+      → Given a b t strip strip' → Cleared a b work work' → NextAnswer a b strip work strip' work' (Ok (Some (value_of a b t)))
   none_left : Passed (next_gates a b strip work) → (s : HandedBest a b strip) → NoneLeftOf a b s.handed.steps → strip' ≡ strip
-      → Cleared a b work work' → NextAnswer a b strip work strip' work' NoneLeft
+      → Cleared a b work work' → NextAnswer a b strip work strip' work' (Ok None)

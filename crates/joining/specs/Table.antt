@@ -1,32 +1,24 @@
 -- Inner: the table of 001's (12), from the outlines of both traces.
-use Rattle.std.specs.Prelude.{◌≡◌, List, ℕ, ◌+◌, ◌*◌, ◌≤◌, ◌<◌, length, get_or, drop, set, ℤ, pos, ◌+ℤ◌, ◌-ℤ◌, ◌*ℤ◌}
+use Rattle.std.specs.Prelude.{◌≡◌, List, ℕ, ◌+◌, ◌*◌, ◌≤◌, ◌<◌, length, get_or, drop, set, ℤ, pos, ◌+ℤ◌}
 use Rattle.std.specs.Int.Signed.{le_z}
 use mir.Val.{bool_byte}
 use Rattle.whole.specs.Between.{Within}
 use Rattle.ways.specs.Value.{Worths}
 use Rattle.ways.specs.Keppel.{top, pointer, also_b, maxℤ}
-use Rattle.strip.specs.Arrays.{Arrays, worths_of}
+use Rattle.trace.specs.declared.outline.Corner.{Corner}
+use Rattle.trace.specs.declared.outline.Outline.{Outline}
+use Rattle.trace.specs.Outline.{corner, CornerWithin}
+use Rattle.strip.specs.Outlines.{crossed}
 use Rattle.joining.specs.declared.choice.Choice.{Choice}
 use Rattle.joining.specs.Cells.{cell_of, room, Put}
 
--- points within 100,000 of zero, segments within 200,000
-pub record Bounded (p : Arrays) : Type 0 where
-  pub x : (k : ℕ) → Within 100000 (get_or p.x k (pos 0))
-  pub y : (k : ℕ) → Within 100000 (get_or p.y k (pos 0))
-  pub dx : (k : ℕ) → Within 200000 (get_or p.dx k (pos 0))
-  pub dy : (k : ℕ) → Within 200000 (get_or p.dy k (pos 0))
+-- every corner of an outline is bounded
+abbrev pub Bounded : Outline → Type 0
+Bounded p = (k : ℕ) → CornerWithin (corner p k)
 
--- a value, the other side's point and the own segment of a step, none of which can overflow
-pub record Small (v ox oy sx sy : ℤ) : Type 0 where
-  pub value : Within 1000000000000000 v
-  pub x : Within 100000 ox
-  pub y : Within 100000 oy
-  pub dx : Within 200000 sx
-  pub dy : Within 200000 sy
-
--- the value with that step
-abbrev pub along : ℤ → ℤ → ℤ → ℤ → ℤ → ℤ
-along v ox oy sx sy = v +ℤ (ox *ℤ sy -ℤ oy *ℤ sx)
+-- a value with which one step more cannot overflow
+abbrev pub Small : ℤ → Type 0
+Small v = Within 1000000000000000 v
 
 -- the mark of a pair: 1 if coming by A attains the greatest value, 2 if coming by B does, 3 if both do
 unfoldable pub mark_of : Worths → ℕ → ℕ → ℕ
@@ -42,33 +34,33 @@ pub record Chosen (va vb : ℤ) (c : Choice) : Type 0 where
   pub mark : c.mark ≡ bool_byte (le_z vb va) + 2 * bool_byte (le_z va vb)
 
 -- what one pair asks: where it is, and values and numbers that cannot overflow
-pub record CellReady (p q : Arrays) (i j at : ℕ) (row : List ℤ) (work : List ℕ) : Type 0 where
-  pub bounded : Bounded p
-  pub bounded' : Bounded q
-  pub in_i : i + 1 < 251
+pub record CellReady (from to : Corner) (q : Outline) (j at : ℕ) (row : List ℤ) (work : List ℕ) : Type 0 where
+  pub from_bounded : CornerWithin from
+  pub to_bounded : CornerWithin to
+  pub bounded : Bounded q
   pub in_j : j + 1 < 251
   pub in_cells : at + (j + 1) < 63001
   pub in_work : room (at + (j + 1) + 1) ≤ length work
-  pub up : Within 1000000000000000 (get_or row (j + 1) (pos 0))
-  pub left : Within 1000000000000000 (get_or row j (pos 0))
+  pub up : Small (get_or row (j + 1) (pos 0))
+  pub left : Small (get_or row j (pos 0))
 
--- the pair (i+1, j+1), from the row above at j+1 and the row's own value at j
-pub record CellDone (p q : Arrays) (i j at : ℕ) (row : List ℤ) (work : List ℕ) (row' : List ℤ) (work' : List ℕ) : Type 0 where
+-- the pair at j+1 between two corners of A, from the row above at j+1 and the row's own value at j
+pub record CellDone (from to : Corner) (q : Outline) (j at : ℕ) (row : List ℤ) (work : List ℕ) (row' : List ℤ) (work' : List ℕ) : Type 0 where
   pub choice : Choice
-  pub chosen : Chosen (get_or row (j + 1) (pos 0) +ℤ (worths_of p q).worth_a i (j + 1)) (get_or row j (pos 0) +ℤ (worths_of p q).worth_b (i + 1) j) choice
+  pub chosen : Chosen (get_or row (j + 1) (pos 0) +ℤ crossed (corner q (j + 1)) from) (get_or row j (pos 0) +ℤ crossed to (corner q j)) choice
   pub stored : row' ≡ set row (j + 1) choice.best
   pub put : Put work (at + (j + 1)) choice.mark work'
 
 -- the pair (0, j+1), which can be reached by B alone
-pub record BorderReady (p q : Arrays) (j : ℕ) (row : List ℤ) (work : List ℕ) : Type 0 where
-  pub bounded : Bounded p
-  pub bounded' : Bounded q
+pub record BorderReady (first : Corner) (q : Outline) (j : ℕ) (row : List ℤ) (work : List ℕ) : Type 0 where
+  pub first_bounded : CornerWithin first
+  pub bounded : Bounded q
   pub in_j : j + 1 < 251
   pub in_work : room (j + 1 + 1) ≤ length work
-  pub left : Within 1000000000000000 (get_or row j (pos 0))
+  pub left : Small (get_or row j (pos 0))
 
-pub record BorderDone (p q : Arrays) (j : ℕ) (row : List ℤ) (work : List ℕ) (row' : List ℤ) (work' : List ℕ) : Type 0 where
-  pub stored : row' ≡ set row (j + 1) (get_or row j (pos 0) +ℤ (worths_of p q).worth_b 0 j)
+pub record BorderDone (first : Corner) (q : Outline) (j : ℕ) (row : List ℤ) (work : List ℕ) (row' : List ℤ) (work' : List ℕ) : Type 0 where
+  pub stored : row' ≡ set row (j + 1) (get_or row j (pos 0) +ℤ crossed first (corner q j))
   pub put : Put work (j + 1) 2 work'
 
 -- the row holds the greatest values of the pairs (i,0) to (i,n)
@@ -76,7 +68,7 @@ pub record RowAt (w : Worths) (i n : ℕ) (row : List ℤ) : Type 0 where
   pub long : length row ≡ 251
   pub values : (j : ℕ) → j ≤ n → get_or row j (pos 0) ≡ top w i j
 
-pub record Ready (p q : Arrays) (m n : ℕ) (work : List ℕ) : Type 0 where
+pub record Ready (p q : Outline) (m n : ℕ) (work : List ℕ) : Type 0 where
   pub bounded : Bounded p
   pub bounded' : Bounded q
   pub few_a : m ≤ 250

@@ -1,12 +1,11 @@
 -- Inner: walking back along the marks, and finding where to turn.
-use Rattle.std.specs.Prelude.{◌≡◌, Bool, true, false, List, ◌∷◌, ◌++◌, ℕ, suc, pred, ◌+◌, ◌/◌, ◌%◌, ◌≤◌, ◌<◌, eqb, length, drop}
+use Rattle.std.specs.Prelude.{◌≡◌, Bool, true, false, List, ◌∷◌, ◌++◌, ℕ, suc, pred, ◌+◌, ◌/◌, ◌%◌, ◌≤◌, ◌<◌, eqb, length, drop, Option, Some, None}
 use Rattle.ways.specs.Strip.{Step, A, B, steps_a, steps_b}
 use Rattle.ways.specs.Keppel.{trace}
 use Rattle.strip.specs.Bytes.{bytes}
 use Rattle.joining.specs.declared.walking.Back.{Back}
 use Rattle.joining.specs.declared.walking.Look.{Look}
-use Rattle.joining.specs.declared.walking.Turning.{Turning}
-use Rattle.joining.specs.declared.walking.Turning.TheVariants.{Turn, Nowhere}
+use Rattle.joining.specs.declared.walking.Turn.{Turn}
 use Rattle.joining.specs.Cells.{cell_of, room}
 use Rattle.joining.specs.Table.{cell_at}
 
@@ -32,11 +31,11 @@ pub data BackFrom (by_a : Bool) (i j : ℕ) : Back → Type 0 where
   by_b : {b : ℕ} → by_a ≡ false → j ≡ b + 1 → BackFrom by_a i j (record { i = i; j = b; byte = 1 })
 
 -- along a strip t: the earliest step A into a pair that can be reached best by B as well
-pub data TurnOf (l : List ℕ) (n : ℕ) (t : List Step) : Turning → Type 0 where
+pub data TurnOf (l : List ℕ) (n : ℕ) (t : List Step) : Option Turn → Type 0 where
   turn : (x z : List Step) → t ≡ x ++ A ∷ z → says_b l n (suc (steps_a x)) (steps_b x) ≡ true
       → ((x' z' : List Step) → t ≡ x' ++ A ∷ z' → length x' < length x → says_b l n (suc (steps_a x')) (steps_b x') ≡ false)
-      → TurnOf l n t (Turn (length x) (suc (steps_a x)) (steps_b x))
-  nowhere : ((x z : List Step) → t ≡ x ++ A ∷ z → says_b l n (suc (steps_a x)) (steps_b x) ≡ false) → TurnOf l n t Nowhere
+      → TurnOf l n t (Some (record { at = length x; i = suc (steps_a x); j = steps_b x }))
+  nowhere : ((x z : List Step) → t ≡ x ++ A ∷ z → says_b l n (suc (steps_a x)) (steps_b x) ≡ false) → TurnOf l n t None
 
 -- one step of that walk, from (i,j)
 pub record Looked (l : List ℕ) (n byte i j : ℕ) (r : Look) : Type 0 where

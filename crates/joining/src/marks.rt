@@ -17,13 +17,10 @@ pub(crate) fn mark_at(work: &[u8], cell: usize) -> u8
 }
 
 // The bytes of the first `cells` cells are zero again.
+#[tactic(auto, unfolding(crate::specs::Cells::room))]
 pub(crate) fn clear(work: &mut [u8], cells: usize)
     requires { room cells ≤ length work.old }
     ensures { work.new ≡ replicate (room cells) 0 ++ drop (room cells) work.old }
 {
-    let mut k = 0;
-    while k < cells {
-        work[k] = 0;
-        k += 1;
-    }
+    work[..cells].fill(0);
 }

@@ -5,7 +5,7 @@ use mathlib.Core.Path.{◌≡◌, refl, sym, ap, ap₂, ◌∙◌, subst}
 use mathlib.Core.Bool.{Bool, true, false, cond, ◌&&◌}
 use mathlib.Core.Logic.{◌↔◌}
 use mathlib.Core.List.{List, [], ◌∷◌, ◌++◌, append-nil}
-use mathlib.Core.Option.{Option, none, some}
+use Rattle.std.proofs.Common.{Option, None, Some}
 use Prim.Native.Nat.{ℕ, ◌*◌}
 use native.Mathlib.Omega.{arith}
 use lib.Dec.{leb, eqb}
@@ -43,33 +43,33 @@ all_digits_lem b (c ∷ w) e =
 
 -- ---- a number without a sign
 
-natural_of : {w : List ℕ} → Digits w → natural w ≡ some (amount 0 w)
+natural_of : {w : List ℕ} → Digits w → natural w ≡ Some (amount 0 w)
 natural_of (last {b = b} h k) = natural_yes b [] (digits_all (last h k))
 natural_of (more {b = b} {w = w} h k d) = natural_yes b w (digits_all (more h k d))
 
-of_natural : (w : List ℕ) (v : ℕ) → natural w ≡ some v → Digits w × (v ≡ amount 0 w)
+of_natural : (w : List ℕ) (v : ℕ) → natural w ≡ Some v → Digits w × (v ≡ amount 0 w)
 unfolding natural
 of_natural [] v e = none_some e
 of_natural (b ∷ w) v e = go (all_digits (b ∷ w)) refl e
   where
-    go : (t : Bool) → all_digits (b ∷ w) ≡ t → cond t (some (amount 0 (b ∷ w))) none ≡ some v → Digits (b ∷ w) × (v ≡ amount 0 (b ∷ w))
+    go : (t : Bool) → all_digits (b ∷ w) ≡ t → cond t (Some (amount 0 (b ∷ w))) None ≡ Some v → Digits (b ∷ w) × (v ≡ amount 0 (b ∷ w))
     go true t e = (all_digits_lem b w t, sym (same_some e))
     go false t e = none_some e
 
 -- ---- in range, with its sign
 
-ranged_of : (sign : ℕ → ℤ) (v : ℕ) → Between 2147483648 2147483647 (sign v) → ranged sign (some v) ≡ some (sign v)
+ranged_of : (sign : ℕ → ℤ) (v : ℕ) → Between 2147483648 2147483647 (sign v) → ranged sign (Some v) ≡ Some (sign v)
 unfolding ranged in32_bits
 ranged_of sign v b = rw (le_le_z b.low, le_le_z b.high)
 
-of_ranged : (sign : ℕ → ℤ) (o : Option ℕ) (z : ℤ) → ranged sign o ≡ some z
-    → (v : ℕ) × (o ≡ some v) × (Between 2147483648 2147483647 (sign v)) × (z ≡ sign v)
+of_ranged : (sign : ℕ → ℤ) (o : Option ℕ) (z : ℤ) → ranged sign o ≡ Some z
+    → (v : ℕ) × (o ≡ Some v) × (Between 2147483648 2147483647 (sign v)) × (z ≡ sign v)
 unfolding ranged in32_bits
-of_ranged sign none z e = none_some e
-of_ranged sign (some v) z e = go (in32_bits (sign v)) refl e
+of_ranged sign None z e = none_some e
+of_ranged sign (Some v) z e = go (in32_bits (sign v)) refl e
   where
-    go : (t : Bool) → in32_bits (sign v) ≡ t → cond t (some (sign v)) none ≡ some z
-        → (u : ℕ) × (some v ≡ some u) × (Between 2147483648 2147483647 (sign u)) × (z ≡ sign u)
+    go : (t : Bool) → in32_bits (sign v) ≡ t → cond t (Some (sign v)) None ≡ Some z
+        → (u : ℕ) × (Some v ≡ Some u) × (Between 2147483648 2147483647 (sign u)) × (z ≡ sign u)
     go true t e =
         let both = and_true (le_z (negsuc 2147483647) (sign v)) (le_z (sign v) (pos 2147483647)) t in
         let low = le_z_true (negsuc 2147483647) (sign v) both.0 in
@@ -83,17 +83,17 @@ plain_is : {w : List ℕ} → Digits w → numeral w ≡ ranged pos (natural w)
 plain_is (last {b = b} h k) = no_minus b [] (λ e. omega arith)
 plain_is (more {b = b} {w = w} h k d) = no_minus b w (λ e. omega arith)
 
-number_read : {w : List ℕ} {z : ℤ} → IsNumber w z → numeral w ≡ some z
+number_read : {w : List ℕ} {z : ℤ} → IsNumber w z → numeral w ≡ Some z
 unfolding numeral
 number_read (plain {w = w} d b) = plain_is d ∙ ap (ranged pos) (natural_of d) ∙ ranged_of pos (amount 0 w) b
 number_read (minus {w = w} d b) = ap (ranged (λ v. neg_ℤ (pos v))) (natural_of d) ∙ ranged_of (λ v. neg_ℤ (pos v)) (amount 0 w) b
 
-read_number : (w : List ℕ) (z : ℤ) → numeral w ≡ some z → IsNumber w z
+read_number : (w : List ℕ) (z : ℤ) → numeral w ≡ Some z → IsNumber w z
 unfolding numeral
 read_number [] z e = none_some e
 read_number (b ∷ w) z e = go (eqb b 45) refl e
   where
-    go : (t : Bool) → eqb b 45 ≡ t → cond t (ranged (λ v. neg_ℤ (pos v)) (natural w)) (ranged pos (natural (b ∷ w))) ≡ some z
+    go : (t : Bool) → eqb b 45 ≡ t → cond t (ranged (λ v. neg_ℤ (pos v)) (natural w)) (ranged pos (natural (b ∷ w))) ≡ Some z
         → IsNumber (b ∷ w) z
     go true t e =
         let r = of_ranged (λ v. neg_ℤ (pos v)) (natural w) z e in
@@ -105,26 +105,26 @@ read_number (b ∷ w) z e = go (eqb b 45) refl e
         rw (r.3, d.1) (plain d.0 (rw d.1 at r.2))
 
 -- a word is read as a number exactly if it is that number
-pub number_exactly : (w : List ℕ) (z : ℤ) → (numeral w ≡ some z) ↔ IsNumber w z
+pub number_exactly : (w : List ℕ) (z : ℤ) → (numeral w ≡ Some z) ↔ IsNumber w z
 number_exactly w z = (read_number w z, number_read)
 
 -- ---- every word
 
-numbers_read : {ws : List (List ℕ)} {l : List ℤ} → Numbers ws l → numbers ws ≡ some l
+numbers_read : {ws : List (List ℕ)} {l : List ℤ} → Numbers ws l → numbers ws ≡ Some l
 unfolding numbers also
 numbers_read Numbers.none = refl
 numbers_read (number d n) = ap₂ also (number_read d) (numbers_read n)
 
-read_numbers : (ws : List (List ℕ)) (l : List ℤ) → numbers ws ≡ some l → Numbers ws l
+read_numbers : (ws : List (List ℕ)) (l : List ℤ) → numbers ws ≡ Some l → Numbers ws l
 unfolding numbers also
 read_numbers [] l e = subst (Numbers []) (same_some e) Numbers.none
 read_numbers (w ∷ ws) l e = go (read_numbers ws) (numeral w) refl (numbers ws) refl e
   where
-    go : ((l : List ℤ) → numbers ws ≡ some l → Numbers ws l) → (o : Option ℤ) → numeral w ≡ o → (p : Option (List ℤ)) → numbers ws ≡ p
-        → also o p ≡ some l → Numbers (w ∷ ws) l
-    go f none o p q e = none_some e
-    go f (some z) o none q e = none_some e
-    go f (some z) o (some k) q e = subst (Numbers (w ∷ ws)) (same_some e) (number (read_number w z o) (f k q))
+    go : ((l : List ℤ) → numbers ws ≡ Some l → Numbers ws l) → (o : Option ℤ) → numeral w ≡ o → (p : Option (List ℤ)) → numbers ws ≡ p
+        → also o p ≡ Some l → Numbers (w ∷ ws) l
+    go f None o p q e = none_some e
+    go f (Some z) o None q e = none_some e
+    go f (Some z) o (Some k) q e = subst (Numbers (w ∷ ws)) (same_some e) (number (read_number w z o) (f k q))
 
 -- ---- the layers
 
@@ -208,8 +208,8 @@ reads_asks t lower a upper b e = go (leb (length t) 60000) refl (numbers (words 
         → cond s (laid_out o) text ≡ pair lower a upper b
         → Asks t lower a upper b
     go false s o q e = no_pair e
-    go true s none q e = no_pair e
-    go true s (some l) q e =
+    go true s None q e = no_pair e
+    go true s (Some l) q e =
         let d = laid_out_lem l lower a upper b e in
         record {
           short = leb-true (length t) 60000 s;

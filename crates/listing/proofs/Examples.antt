@@ -1,7 +1,7 @@
 -- 01's example, word for word, and words that are numbers or are not: each by computing the definitions. Assumes nothing.
 use mathlib.Core.Path.{◌≡◌, refl}
 use mathlib.Core.List.{List, [], ◌∷◌, map}
-use mathlib.Core.Option.{none, some}
+use Rattle.std.proofs.Common.{None, Some}
 use Prim.Native.Nat.{ℕ}
 use lib.IntN.{ℤ, pos, negsuc}
 use Rattle.ways.specs.Strip.{A, B}
@@ -65,7 +65,7 @@ example_words : map numeral (
     (49 ∷ 13 ∷ []) ∷
     (49 ∷ 0 ∷ []) ∷
     []) ≡
-    some (pos 0) ∷ some (pos 0) ∷ some (pos 7) ∷ some (negsuc 6) ∷ some (pos 2147483647) ∷ some (negsuc 2147483647) ∷ none ∷
-    none ∷ none ∷ none ∷ none ∷ none ∷ none ∷ none ∷ none ∷ none ∷ []
+    Some (pos 0) ∷ Some (pos 0) ∷ Some (pos 7) ∷ Some (negsuc 6) ∷ Some (pos 2147483647) ∷ Some (negsuc 2147483647) ∷ None ∷
+    None ∷ None ∷ None ∷ None ∷ None ∷ None ∷ None ∷ None ∷ None ∷ []
 unfolding numeral ranged in32_bits natural amount all_digits digit
 example_words = refl

@@ -1,41 +1,46 @@
 -- Along the numbers of the text: what one number more does to what was read and to the lent list, and what it means that no number
 -- stands where one is wanted. Assumes nothing.
-use mathlib.Core.Path.{◌≡◌, refl, sym, ap, ap₂, ◌∙◌}
+use mathlib.Core.Path.{◌≡◌, refl, sym, ap, ap₂, ◌∙◌, subst}
 use mathlib.Core.Bool.{Bool, true, false}
-use mathlib.Core.List.{List, [], ◌∷◌, ◌++◌, append_assoc, append-nil}
-use mathlib.Core.Option.{some}
+use mathlib.Core.List.{List, [], ◌∷◌, ◌++◌, append_assoc}
+use Rattle.std.proofs.Common.{Option, None, Some}
 use Prim.Native.Nat.{ℕ, suc, ◌+◌, ◌≤◌, ◌<◌}
 use native.Mathlib.Numerals.{add-one}
 use native.Mathlib.Omega.{arith}
 use lib.IntN.{ℤ, pos}
 use lib.Dec.{ltb}
-use lib.ListN.{length, get_or, take, drop, set, length-append, length-take, length-drop, drop_of_length-le, replicate, length-replicate}
-use lib.ListN.{replicate-append-replicate}
+use lib.ListN.{length, get_or, take, drop, set, length-append, length-take, length-drop, drop_of_length-le}
 use lib.Seq.{take_all, take-nil, drop-cons, set-append_seam, set_out, take-append-le, take-append_seam}
 use borrow.Author.Tests.{ltb-true, ltb-false}
-use Rattle.listing.specs.declared.numeral.Word.{Word}
-use Rattle.listing.specs.declared.numeral.Word.TheVariants.{Number}
-use Rattle.listing.specs.declared.asked.Place.{Place}
-use Rattle.listing.specs.declared.asked.Place.TheVariants.{At, Lost}
-use Rattle.listing.specs.Asked.{also}
-use Rattle.listing.specs.Scan.{numbers_at, Next, end, bad, number}
+use Rattle.listing.specs.Words.{words}
+use Rattle.listing.specs.Numeral.{numeral}
+use Rattle.listing.specs.Asked.{also, numbers}
 use Rattle.listing.specs.Answer.{front}
-use Rattle.listing.specs.Filling.{ahead, CoordTaken, on, lost, CoordsRead, all, short}
+use Rattle.listing.specs.Filling.{numbers_in, ahead, NumberRead, number, missing, CoordsRead, all, short}
 use Rattle.listing.proofs.AheadLaws.{none_some, same_some, ahead_none, ahead_more, ahead_rest}
 
--- ---- no number where one is wanted
+-- ---- a word, or none
 
-pub no_number : {t : List ℕ} {k : ℕ} {w : Word} → Next t k w → ((z : ℤ) (r : ℕ) → w ≡ Number z r → ⊥)
-    → (l : List ℤ) → numbers_at t k ≡ some l → l ≡ []
-no_number (end e) o l f = sym (same_some (sym e ∙ f))
-no_number (bad e) o l f = none_some (sym e ∙ f)
-no_number (number {z = z} {r = r} e) o l f = absurd (o z r refl)
+pub no_word : {t t' : List ℕ} → words t ≡ [] → NumberRead t t' None
+unfolding numbers_in numbers
+no_word e = missing (λ l f. sym (same_some (sym (ap numbers e) ∙ f)))
 
-pub is_number : {t : List ℕ} {k : ℕ} {w : Word} {z : ℤ} {r : ℕ} → Next t k w → w ≡ Number z r
-    → numbers_at t k ≡ also (some z) (numbers_at t r)
-is_number (end e) q = absurd (let z : ◌≡◌ {A = ℕ} 0 1 = cc in omega arith)
-is_number (bad e) q = absurd (let z : ◌≡◌ {A = ℕ} 0 1 = cc in omega arith)
-is_number (number e) q = cc
+pub word_read : {t t' w : List ℕ} {r : Option ℤ} → words t ≡ w ∷ words t' → r ≡ numeral w → NumberRead t t' r
+unfolding numbers_in numbers also
+word_read {t} {t'} {w} e q = subst (NumberRead t t') (sym q) (go (numeral w) refl)
+  where
+    both : (o : Option ℤ) → numeral w ≡ o → numbers (words t) ≡ also o (numbers (words t'))
+    both o f = ap numbers e ∙ ap (λ (o : Option ℤ). also o (numbers (words t'))) f
+
+    go : (o : Option ℤ) → numeral w ≡ o → NumberRead t t' o
+    go None f = missing (λ l g. none_some (sym (both None f) ∙ g))
+    go (Some z) f = number (both (Some z) f)
+
+pub is_number : {t t' : List ℕ} {z : ℤ} → NumberRead t t' (Some z) → numbers_in t ≡ also (Some z) (numbers_in t')
+is_number (number e) = e
+
+pub no_number : {t t' : List ℕ} → NumberRead t t' None → (l : List ℤ) → numbers_in t ≡ Some l → l ≡ []
+no_number (missing f) = f
 
 -- ---- numbers at the front of a lent list
 
@@ -85,61 +90,37 @@ front_more l z room = go (ltb (length l) (length room)) refl
 
 -- ---- the coordinates, one by one
 
--- i numbers were read from place k on, up to `here`, and kept
-pub record CoordsSo (t : List ℕ) (k i here : ℕ) (room₀ room : List ℤ) : Type 0 where
+-- i numbers were read from the text t, of which t' is left, and kept
+pub record CoordsSo (t t' : List ℕ) (i : ℕ) (room₀ room : List ℤ) : Type 0 where
   pub coords : List ℤ
-  pub before : numbers_at t k ≡ ahead coords (numbers_at t here)
+  pub before : numbers_in t ≡ ahead coords (numbers_in t')
   pub many : length coords ≡ i
   pub kept : room ≡ front coords room₀
 
-pub coords_begun : (t : List ℕ) (k : ℕ) (room : List ℤ) → CoordsSo t k 0 k room room
-coords_begun t k room = record { coords = []; before = ahead_none (numbers_at t k); many = refl; kept = sym (front_none room) }
+pub coords_begun : (t : List ℕ) (room : List ℤ) → CoordsSo t t 0 room room
+coords_begun t room = record { coords = []; before = ahead_none (numbers_in t); many = refl; kept = sym (front_none room) }
 
-pub coords_more : (t : List ℕ) (k i here r : ℕ) (room₀ room room' : List ℤ) {p : Place} → CoordsSo t k i here room₀ room
-    → CoordTaken t here i room room' p → p ≡ At r → CoordsSo t k (i + 1) r room₀ room'
-coords_more t k i here r room₀ room room' so (on {r = r'} z e f) q = record {
+-- one more, which is kept or changes nothing where there is no room
+pub coords_more : {t t' t'' : List ℕ} {i : ℕ} {room₀ room room' : List ℤ} {z : ℤ} → CoordsSo t t' i room₀ room → NumberRead t' t'' (Some z)
+    → room' ≡ set room i z → CoordsSo t t'' (i + 1) room₀ room'
+coords_more {t} {t'} {t''} {i} {room₀} {room} {room'} {z} so n f = record {
   coords = so.coords ++ z ∷ [];
-  before =
-      so.before ∙ ap (ahead so.coords) e ∙ ahead_more so.coords z (numbers_at t r')
-      ∙ ap (λ (n : ℕ). ahead (so.coords ++ z ∷ []) (numbers_at t n)) same;
+  before = so.before ∙ ap (ahead so.coords) (is_number n) ∙ ahead_more so.coords z (numbers_in t'');
   many = length-append so.coords (z ∷ []) ∙ ap (λ (n : ℕ). n + 1) so.many;
-  kept =
-      f ∙ ap₂ (λ (l : List ℤ) (n : ℕ). set l n z) so.kept (sym so.many) ∙ sym (front_more so.coords z room₀);
+  kept = f ∙ ap₂ (λ (l : List ℤ) (n : ℕ). set l n z) so.kept (sym so.many) ∙ sym (front_more so.coords z room₀);
 }
-  where
-    same : r' ≡ r
-    same = cc
-coords_more t k i here r room₀ room room' so (lost n) q = absurd (let z : ◌≡◌ {A = ℕ} 0 1 = cc in omega arith)
 
--- no number stands at `here`, and one more is wanted
-pub coords_short : (t : List ℕ) (k i here wanted : ℕ) (room₀ room room' : List ℤ) {p : Place} → CoordsSo t k i here room₀ room → i < wanted
-    → CoordTaken t here i room room' p → p ≡ Lost → CoordsRead t k wanted room₀ room' Lost
-coords_short t k i here wanted room₀ room room' so h (on z e f) q = absurd (let z : ◌≡◌ {A = ℕ} 0 1 = cc in omega arith)
-coords_short t k i here wanted room₀ room room' so h (lost n) q = short fewer
+-- one more is wanted, and there is none
+pub coords_short : {t t' t'' : List ℕ} {i wanted : ℕ} {room₀ room room' : List ℤ} → CoordsSo t t' i room₀ room → i < wanted
+    → NumberRead t' t'' None → CoordsRead t t'' wanted room₀ room' None
+coords_short {t} {t'} {wanted = wanted} so h n = short fewer
   where
-    fewer : (l : List ℤ) → numbers_at t k ≡ some l → length l < wanted
+    fewer : (l : List ℤ) → numbers_in t ≡ Some l → length l < wanted
     fewer l e =
-        let rest = ahead_rest so.coords (numbers_at t here) l (sym so.before ∙ e) in
+        let rest = ahead_rest so.coords (numbers_in t') l (sym so.before ∙ e) in
         let many : length l ≡ length so.coords + length rest.0 = ap length rest.2 ∙ length-append so.coords rest.0 in
-        omega (arith, so.many, ap length (n rest.0 rest.1))
+        omega (arith, so.many, ap length (no_number n rest.0 rest.1))
 
-pub coords_done : (t : List ℕ) (k i here wanted : ℕ) (room₀ room : List ℤ) → CoordsSo t k i here room₀ room → i ≡ wanted
-    → CoordsRead t k wanted room₀ room (At here)
-coords_done t k i here wanted room₀ room so e = all so.coords so.before (so.many ∙ e) so.kept
-
--- ---- a list cleared, number by number
-
-pub cleared_more : (k : ℕ) (room₀ room : List ℤ) → room ≡ front (replicate k (pos 0)) room₀
-    → set room k (pos 0) ≡ front (replicate (k + 1) (pos 0)) room₀
-cleared_more k room₀ room e =
-    ap₂ (λ (l : List ℤ) (n : ℕ). set l n (pos 0)) e (sym (length-replicate k (pos 0)))
-    ∙ sym (front_more (replicate k (pos 0)) (pos 0) room₀)
-    ∙ ap (λ (l : List ℤ). front l room₀) (replicate-append-replicate k 1 (pos 0))
-
-pub cleared_done : (k : ℕ) (room₀ room : List ℤ) → room ≡ front (replicate k (pos 0)) room₀ → k ≡ length room₀
-    → room ≡ replicate (length room₀) (pos 0)
-cleared_done k room₀ room e f =
-    e ∙ front_all (replicate k (pos 0)) room₀ (omega (arith, length-replicate k (pos 0)))
-    ∙ ap (λ (l : List ℤ). replicate k (pos 0) ++ l)
-    (drop_of_length-le room₀ {i = length (replicate k (pos 0))} (omega (arith, length-replicate k (pos 0))))
-    ∙ append-nil (replicate k (pos 0)) ∙ ap (λ (n : ℕ). replicate n (pos 0)) f
+pub coords_done : {t t' : List ℕ} {i wanted : ℕ} {room₀ room : List ℤ} {u : Unit} → CoordsSo t t' i room₀ room → i ≡ wanted
+    → CoordsRead t t' wanted room₀ room (Some u)
+coords_done so e = all so.coords so.before (so.many ∙ e) so.kept

@@ -4,8 +4,6 @@ pub mod NumeralLaws
 pub mod WordLaws
 pub mod AheadLaws
 pub mod SignedLaws
-pub mod ScanLaws
-pub mod NextLaws
 pub mod FillLaws
 pub mod LayerLaws
 pub mod PairLaws

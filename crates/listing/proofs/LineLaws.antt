@@ -1,57 +1,27 @@
--- What was written: one byte; a list, byte by byte; one part behind another; and the room that is left for the rest of a line.
+-- What was written: one part behind another, the letters of a strip one by one; and the room that is left for the rest of a line.
 -- Assumes nothing.
-use mathlib.Core.Path.{◌≡◌, refl, sym, ap, ap₂, ◌∙◌, subst}
-use mathlib.Core.List.{List, [], ◌∷◌, ◌++◌, map, append_assoc}
+use mathlib.Core.Path.{◌≡◌, sym, ap, ap₂, ◌∙◌, subst}
+use mathlib.Core.List.{List, [], ◌∷◌, ◌++◌, map, append_assoc, append-nil}
 use Prim.Native.Nat.{ℕ, ◌+◌, ◌/◌, ◌%◌, ◌≤◌, ◌<◌}
 use native.Mathlib.Numerals.{add-one}
 use native.Mathlib.Omega.{arith}
-use lib.ListN.{length, take, drop, set, get_or, length-append, length-drop, length-set, length-map, get_or-map}
-use lib.Seq.{length-take-le, set_split, append_snoc, take-length, take_at, drop-append-add, drop-drop, paste, paste-zero, paste-suc}
-use Rattle.ways.specs.Strip.{A}
+use lib.ListN.{length, take, drop, get_or, length-append, length-drop, length-map, take-append-drop}
+use lib.Seq.{length-take-le, take_all, take_at, take-suc, drop-append-add, drop-drop}
+use Rattle.std.proofs.lemmas.List.{map-append}
 use Rattle.strip.specs.Bytes.{step_of, steps_of}
 use Rattle.listing.specs.Numeral.{digits_of}
-use Rattle.listing.specs.Lines.{fields, letter}
+use Rattle.listing.specs.Lines.{fields, letter, strip_line}
 use Rattle.listing.specs.Writing.{Room, Wrote}
 use Rattle.listing.proofs.NumeralLaws.{digits_one, digits_tenth}
+use Rattle.listing.proofs.LengthLaws.{strip_length}
 
--- one byte
-pub wrote_byte : (out : List ℕ) (k b : ℕ) → Room out k (b ∷ []) → Wrote out k (b ∷ []) (set out k b) (k + 1)
-wrote_byte out k b r = record {
-  next = refl;
-  room = r.fits;
-  whole =
-      set_split out k b (omega (arith, r.fits)) ∙ ap (λ (n : ℕ). take k out ++ b ∷ drop n out) (sym (add-one k))
-      ∙ sym (append_snoc (take k out) b (drop (k + 1) out));
+-- nothing yet
+pub wrote_none : {out : List ℕ} {k : ℕ} → k ≤ length out → Wrote out k [] out k
+wrote_none {out} {k} h = record {
+  next = omega arith;
+  room = h;
+  whole = sym (take-append-drop k out) ∙ ap (λ (x : List ℕ). x ++ drop k out) (sym (append-nil (take k out)));
 }
-
--- a list, byte by byte: its first j bytes stand from place k on
-pub record CopySo (out₀ : List ℕ) (k : ℕ) (s : List ℕ) (j : ℕ) (out : List ℕ) : Type 0 where
-  pub inside : j ≤ length s
-  pub long : length out ≡ length out₀
-  pub whole : out ≡ paste out₀ k s j
-
-pub copy_begun : (out : List ℕ) (k : ℕ) (s : List ℕ) → CopySo out k s 0 out
-copy_begun out k s = record { inside = omega arith; long = refl; whole = paste-zero out k s }
-
-pub copy_more : (out₀ : List ℕ) (k : ℕ) (s : List ℕ) (j : ℕ) (out : List ℕ) (v d : ℕ) → Room out₀ k s → CopySo out₀ k s j out → j < length s
-    → v ≡ get_or s j d → CopySo out₀ k s (j + 1) (set out (k + j) v)
-copy_more out₀ k s j out v d r so h e = record {
-  inside = omega arith;
-  long = length-set out (k + j) v ∙ so.long;
-  whole =
-      ap₂ (λ (l : List ℕ) (x : ℕ). set l (k + j) x) so.whole e ∙ paste-suc out₀ k s j d (omega (arith, r.fits)) h
-      ∙ ap (λ (n : ℕ). paste out₀ k s n) (sym (add-one j));
-}
-
-pub copy_done : (out₀ : List ℕ) (k : ℕ) (s : List ℕ) (j : ℕ) (out : List ℕ) → Room out₀ k s → CopySo out₀ k s j out → length s ≤ j
-    → Wrote out₀ k s out (k + j)
-copy_done out₀ k s j out r so h =
-    let e : j ≡ length s = omega (arith, so.inside) in
-    record {
-      next = ap (λ (n : ℕ). k + n) e;
-      room = omega (arith, r.fits);
-      whole = so.whole ∙ ap (λ (l : List ℕ). take k out₀ ++ l ++ drop (k + j) out₀) (ap (λ (n : ℕ). take n s) e ∙ take-length s);
-    }
 
 -- the first part of what was written, with what stands before it
 front_length : {out : List ℕ} {k : ℕ} {p out' : List ℕ} {n : ℕ} → Wrote out k p out' n → length (take k out ++ p) ≡ n
@@ -80,6 +50,11 @@ wrote_then {out} {k} {p} {out₁} {n} {q} {out₂} {m} w v = record {
         ap₂ (λ (j : ℕ) (l : List ℕ). drop j l) (v.next ∙ ap (λ (j : ℕ). j + length q) (sym (front_length w))) w.whole
         ∙ drop-append-add (take k out ++ p) (drop n out) (length q)
         ∙ drop-drop (length q) n out ∙ ap (λ (j : ℕ). drop j out) (sym v.next)
+
+-- the list that was lent to a page, and what the page holds of it
+pub wrote_page : {out : List ℕ} {k : ℕ} {p out' out'' : List ℕ} {n m : ℕ} → Wrote out k p out' n → m ≡ n → out'' ≡ out'
+    → Wrote out k p out'' m
+wrote_page {out} {k} {p} w e f = rw (e, f) w
 
 -- two outcomes of one writing coincide
 pub wrote_unique : {out : List ℕ} {k : ℕ} {p out₁ out₂ : List ℕ} {n₁ n₂ : ℕ} → Wrote out k p out₁ n₁ → Wrote out k p out₂ n₂
@@ -139,11 +114,47 @@ pub wrote_digits : {out : List ℕ} {k : ℕ} {out₁ : List ℕ} {n : ℕ} {out
 wrote_digits {out} {k} {out₁} {n} {out₂} {m} v h w u =
     subst (λ (l : List ℕ). Wrote out k l out₂ m) (sym (digits_tenth v h)) (wrote_then w u)
 
--- ---- the letters of a strip
+-- ---- the letters of a strip, of which j are written
 
-pub letters_length : (l : List ℕ) → length (map letter (steps_of l)) ≡ length l
-letters_length l = length-map (steps_of l) letter ∙ length-map l step_of
+pub record LettersPut (out₀ : List ℕ) (at : ℕ) (strip : List ℕ) (j : ℕ) (out : List ℕ) (next : ℕ) : Type 0 where
+  pub wrote : Wrote out₀ at (map letter (steps_of (take j strip))) out next
 
--- the letter of the byte at j
-pub letter_at : (l : List ℕ) (j : ℕ) → letter (step_of (get_or l j 0)) ≡ get_or (map letter (steps_of l)) j 65
-letter_at l j = sym (get_or-map letter (steps_of l) j A ∙ ap letter (get_or-map step_of l j 0))
+pub letters_begun : {out : List ℕ} {at : ℕ} {strip : List ℕ} → Room out at (strip_line (steps_of strip)) → LettersPut out at strip 0 out at
+letters_begun r = record { wrote = wrote_none (omega (arith, r.fits)) }
+
+module _ {out₀ : List ℕ} {at : ℕ} {strip : List ℕ} {j : ℕ} {out : List ℕ} {next : ℕ} (so : LettersPut out₀ at strip j out next) where
+  -- there is room for the next, and for the end of the line
+  pub letters_room : (b : ℕ) → j ≤ length strip → Room out₀ at (strip_line (steps_of strip)) → Room out next (b ∷ [])
+  letters_room b h r = record {
+    fits = omega (
+      arith,
+      r.fits,
+      strip_length (steps_of strip),
+      length-map strip step_of,
+      so.wrote.next,
+      length-map (steps_of (take j strip)) letter,
+      length-map (take j strip) step_of,
+      length-take-le j strip h,
+      wrote_length so.wrote,
+    );
+  }
+
+  pub letters_more : {out' : List ℕ} {next' : ℕ} {b : ℕ} → j < length strip → b ≡ letter (step_of (get_or strip j 0))
+      → Wrote out next (b ∷ []) out' next'
+      → LettersPut out₀ at strip (j + 1) out' next'
+  letters_more {out'} {next'} {b} h e w = record {
+    wrote = subst (λ (l : List ℕ). Wrote out₀ at l out' next') letters (wrote_then so.wrote w);
+  }
+    where
+      letters : map letter (steps_of (take j strip)) ++ b ∷ [] ≡ map letter (steps_of (take (j + 1) strip))
+      letters =
+          ap (λ (x : ℕ). map letter (steps_of (take j strip)) ++ x ∷ []) e
+          ∙ sym (ap (map letter) (map-append step_of (take j strip) (get_or strip j 0 ∷ []))
+          ∙ map-append letter (steps_of (take j strip)) (step_of (get_or strip j 0) ∷ []))
+          ∙ sym (ap (λ (l : List ℕ). map letter (steps_of l)) (ap (λ (n : ℕ). take n strip) (add-one j) ∙ take-suc strip j 0 h))
+
+  pub letters_done : {out' : List ℕ} {next' : ℕ} → length strip ≤ j → Wrote out next (10 ∷ []) out' next'
+      → Wrote out₀ at (strip_line (steps_of strip)) out' next'
+  unfolding strip_line
+  letters_done {out'} {next'} h w =
+      subst (λ (l : List ℕ). Wrote out₀ at (map letter (steps_of l) ++ 10 ∷ []) out' next') (take_all j strip h) (wrote_then so.wrote w)

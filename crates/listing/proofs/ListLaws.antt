@@ -12,6 +12,7 @@ use lib.ListN.{length, take, drop, length-append, length-take}
 use lib.Seq.{take_at, drop_at}
 use mir.Syntax.{w64}
 use mir.Val.{SFits}
+use Rattle.std.proofs.Common.{Ok, Err}
 use Rattle.fault.specs.declared.Refusal.{Refusal}
 use Rattle.trace.specs.Points.{count}
 use Rattle.strip.specs.Pair.{Pair}
@@ -30,7 +31,6 @@ use Rattle.joining.specs.Answers.{FirstOf}
 use Rattle.joining.specs.Listing.{Beginning, all, some, lined, EnoughLines, ListAnswer, listed, list_gates}
 use Rattle.joining.specs.Listing as Joining
 use Rattle.joining.specs.declared.Run.{Run}
-use Rattle.joining.specs.declared.Run.TheVariants.{Lines, Refused}
 use Rattle.listing.specs.Lines.{value_line, strip_lines, end_line, more_line}
 use Rattle.listing.specs.Writing.{Room, strips_in}
 use Rattle.listing.specs.Listing.{last_line, BestLines, lines, longest}
@@ -114,29 +114,24 @@ module _ {a b : List ℤ} (p : Pair a b) where
     );
   }
 
-  pub never_refused : {limit : ℕ} {lines work lines' work' : List ℕ} {r : Run} {f : Refusal} → limit ≤ 1000 → 500000 ≡ length lines
-      → 63001 ≡ length work → ListAnswer a b limit lines work lines' work' r → r ≡ Refused f → ⊥
-  never_refused {limit} {lines} {work} few h k (Joining.ListAnswer.refused {r = r} x u) e =
+  pub never_refused : {limit : ℕ} {lines work lines' work' : List ℕ} {f : Refusal} → limit ≤ 1000 → 500000 ≡ length lines
+      → 63001 ≡ length work → ListAnswer a b limit lines work lines' work' (Err f) → ⊥
+  never_refused {limit} {lines} {work} few h k (Joining.ListAnswer.refused {r = r} x u) =
       stopped_not_passed (list_gates a b limit lines work) r x (list_passed p (enough few h k))
-  never_refused few h k (listed q l b f c s t) e = let z : ◌≡◌ {A = ℕ} 0 1 = cc in omega arith
 
-  pub run_of : {lines work lines' work' : List ℕ} {r : Run} {value : ℤ} {n : ℕ} {more : Bool} → ListAnswer a b 1000 lines work lines' work' r
-      → r ≡ Lines value n more → RunOf a b lines' value n more
-  run_of (Joining.ListAnswer.refused x u) e = absurd (let z : ◌≡◌ {A = ℕ} 0 1 = cc in omega arith)
-  run_of {lines = old} {value = value} {n = n} {more = more} (listed {more = m} q l begin f c s t) e =
-      let v : value ≡ value_of a b s = cc in
+  pub run_of : {lines work lines' work' : List ℕ} {run : Run} → ListAnswer a b 1000 lines work lines' work' (Ok run)
+      → RunOf a b lines' run.value run.count run.more
+  run_of {lines = old} (listed q l begin f c s t) =
       let g = begun (omega arith) begin in
-      let k : n ≡ length l = cc in
-      let d : m ≡ more = cc in
       record {
         first = g.first;
         is_first = g.is_first;
-        valued = v ∙ best_same t g.is_first.best;
+        valued = best_same t g.is_first.best;
         list = l;
         others = g.others;
         begins = g.begins;
-        counted = k;
-        beginning = subst (Beginning a b 1000 l) d begin;
+        counted = refl;
+        beginning = begin;
         rest = drop (length l * (count a + count b)) old;
         front = f;
       }

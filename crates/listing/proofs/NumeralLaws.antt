@@ -1,32 +1,27 @@
--- Numerals, digit by digit: what digits say with one digit more behind them, and the digits that are written for a number, with
--- the last one behind those of a tenth. The number of digits that the definition is handed does not matter as long as it is enough.
--- Assumes nothing.
+-- Numerals, digit by digit: what digits say, read from the front on and with one digit more behind them; and the digits that are written
+-- for a number, with the last one behind those of a tenth. The number of digits that the definition is handed does not matter as long as
+-- it is enough. Assumes nothing.
 use mathlib.Core.Path.{◌≡◌, refl, sym, ap, ap₂, ◌∙◌, subst}
-use mathlib.Core.Bool.{Bool, true, false, ◌&&◌}
+use mathlib.Core.Bool.{Bool, true, false, ◌&&◌, cond}
 use mathlib.Core.List.{List, [], ◌∷◌, ◌++◌}
-use mathlib.Core.Option.{none, some}
+use Rattle.std.proofs.Common.{Option, None, Some, MatchOption, SomeIff}
 use Prim.Native.Nat.{ℕ, zero, suc, ◌+◌, ◌*◌, ◌-◌, ◌/◌, ◌%◌, ◌≤◌, ◌<◌}
+use native.Mathlib.Numerals.{add-one}
 use native.Mathlib.Omega.{arith}
 use lib.Dec.{leb, ltb}
 use lib.IntN.{pos}
+use lib.ListN.{length, get_or, drop, drop_of_length-le}
+use lib.Seq.{drop-cons}
 use borrow.Author.Tests.{ltb-true, ltb-false, lt-ltb, le-ltb, leb-true, le-leb, ne_eqb}
+use Rattle.std.proofs.lemmas.Option.{none-some, same_Some}
 use Rattle.whole.proofs.TestLaws.{and_true}
 use Rattle.listing.specs.Numeral.{digit, all_digits, amount, natural, ranged, numeral, digits_within, digits_of}
 
 -- ---- one digit more
 
-and_assoc : (a b c : Bool) → (a && b) && c ≡ a && (b && c)
-and_assoc true b c = refl
-and_assoc false b c = refl
-
 pub and_true_right : (a : Bool) → a && true ≡ a
 and_true_right true = refl
 and_true_right false = refl
-
-pub digits_more : (w : List ℕ) (b : ℕ) → all_digits (w ++ b ∷ []) ≡ (all_digits w && digit b)
-unfolding all_digits
-digits_more [] b = and_true_right (digit b)
-digits_more (x ∷ w) b = ap (λ (t : Bool). digit x && t) (digits_more w b) ∙ sym (and_assoc (digit x) (all_digits w) (digit b))
 
 pub amount_more : (w : List ℕ) (v b : ℕ) → amount v (w ++ b ∷ []) ≡ amount v w * 10 + (b - 48)
 unfolding amount
@@ -42,20 +37,83 @@ pub digit_between : (b : ℕ) → digit b ≡ true → (48 ≤ b) × (b ≤ 57)
 unfolding digit
 digit_between b e = let both = and_true (leb 48 b) (leb b 57) e in (leb-true 48 b both.0, leb-true b 57 both.1)
 
+-- one digit more behind an amount a, where both are added and fit or not
+pub digit_added : (r : Option ℕ) (a b x y : ℕ) → digit b ≡ true → x ≡ a * 10 → y ≡ b - 48 → SomeIff r (x + y < 4294967296) (x + y)
+    → MatchOption r (digit b ≡ true → 4294967296 ≤ a * 10 + (b - 48)) (λ v. (digit b ≡ true) × (v ≡ a * 10 + (b - 48)))
+digit_added None a b x y d e f h = λ _. omega (arith, h)
+digit_added (Some v) a b x y d e f h = (d, omega (arith, h.1))
+
 -- ---- a word
 
-pub natural_yes : (b : ℕ) (w : List ℕ) → all_digits (b ∷ w) ≡ true → natural (b ∷ w) ≡ some (amount 0 (b ∷ w))
+pub natural_yes : (b : ℕ) (w : List ℕ) → all_digits (b ∷ w) ≡ true → natural (b ∷ w) ≡ Some (amount 0 (b ∷ w))
 unfolding natural
 natural_yes b w e = rw e
 
-pub natural_no : (b : ℕ) (w : List ℕ) → all_digits (b ∷ w) ≡ false → natural (b ∷ w) ≡ none
+pub no_digits : (w : List ℕ) → length w ≡ 0 → (n : ℕ) → natural w ≡ Some n → 4294967296 ≤ n
 unfolding natural
-natural_no b w e = rw e
+no_digits [] h n e = absurd (none-some n e)
+no_digits (b ∷ w) h n e = absurd (omega arith)
+
+natural_some : (w : List ℕ) (n : ℕ) → natural w ≡ Some n → (all_digits w ≡ true) × (n ≡ amount 0 w)
+unfolding natural
+natural_some [] n e = absurd (none-some n e)
+natural_some (b ∷ w) n e = go (all_digits (b ∷ w)) refl e
+  where
+    go : (t : Bool) → all_digits (b ∷ w) ≡ t → cond t (Some (amount 0 (b ∷ w))) None ≡ Some n
+        → (all_digits (b ∷ w) ≡ true) × (n ≡ amount 0 (b ∷ w))
+    go true t e = (t, sym (same_Some (amount 0 (b ∷ w)) n e))
+    go false t e = absurd (none-some n e)
+
+some_natural : (w : List ℕ) (n : ℕ) → 0 < length w → all_digits w ≡ true → amount 0 w ≡ n → natural w ≡ Some n
+some_natural [] n h d e = absurd (omega arith)
+some_natural (b ∷ w) n h d e = natural_yes b w d ∙ ap Some e
 
 -- one that begins with no minus sign
 pub no_minus : (b : ℕ) (w : List ℕ) → (b ≡ 45 → ⊥) → numeral (b ∷ w) ≡ ranged pos (natural (b ∷ w))
 unfolding numeral
 no_minus b w n = rw (ne_eqb b 45 n)
+
+-- ---- a word, digit by digit
+
+-- what w says is what its bytes from i on say behind v
+pub record DigitsSo (w : List ℕ) (i v : ℕ) : Type 0 where
+  pub digits : all_digits w ≡ all_digits (drop i w)
+  pub says : amount 0 w ≡ amount v (drop i w)
+
+pub digits_begun : (w : List ℕ) → DigitsSo w 0 0
+digits_begun w = record { digits = refl; says = refl }
+
+no_less : (v : ℕ) (w : List ℕ) → v ≤ amount v w
+unfolding amount
+no_less v [] = omega arith
+no_less v (b ∷ w) = omega (arith, no_less (v * 10 + (b - 48)) w)
+
+module _ {w : List ℕ} {i v : ℕ} (so : DigitsSo w i v) where
+  -- one digit more
+  pub digits_on : i < length w → digit (get_or w i 0) ≡ true → DigitsSo w (i + 1) (v * 10 + (get_or w i 0 - 48))
+  unfolding all_digits amount
+  digits_on h d =
+      let here = drop-cons w i 0 h in
+      rw (add-one i) (record {
+        digits = so.digits ∙ ap all_digits here ∙ ap (λ (t : Bool). t && all_digits (drop (suc i) w)) d;
+        says = so.says ∙ ap (amount v) here;
+      })
+
+  -- another byte, or a digit with which the amount is too great
+  pub digits_stop : i < length w → (digit (get_or w i 0) ≡ true → 4294967296 ≤ v * 10 + (get_or w i 0 - 48))
+      → (n : ℕ) → natural w ≡ Some n → 4294967296 ≤ n
+  unfolding all_digits amount
+  digits_stop h f n e =
+      let here = drop-cons w i 0 h in
+      let said = natural_some w n e in
+      let d = (and_true (digit (get_or w i 0)) (all_digits (drop (suc i) w)) (sym (ap all_digits here) ∙ sym so.digits ∙ said.0)).0 in
+      omega (arith, f d, no_less (v * 10 + (get_or w i 0 - 48)) (drop (suc i) w), said.1, so.says, ap (amount v) here)
+
+  pub digits_end : length w ≤ i → 0 < length w → natural w ≡ Some v
+  unfolding all_digits amount
+  digits_end h l =
+      let none = drop_of_length-le w h in
+      some_natural w v l (so.digits ∙ ap all_digits none) (so.says ∙ ap (amount v) none)
 
 -- ---- the digits that are written
 

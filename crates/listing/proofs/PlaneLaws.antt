@@ -11,15 +11,18 @@ use lib.Signed.{le_z}
 use Rattle.whole.specs.Between.{Within}
 use Rattle.whole.proofs.Order.{le_z_true, le_z_false}
 use Rattle.fault.specs.declared.Fault.TheVariants.{Many}
-use Rattle.trace.specs.declared.Judgement.{Judgement}
-use Rattle.trace.specs.declared.Judgement.TheVariants.{Unfit}
+use Rattle.std.proofs.Common.{Ok, Err}
+use Rattle.fault.specs.declared.Refusal.{Refusal}
+use Rattle.fault.specs.declared.Fault.TheVariants.{Planes}
+use Rattle.fault.specs.Gates.{at}
+use Rattle.trace.specs.Judgement.{Judgement}
 use Rattle.trace.specs.Points.{count}
 use Rattle.trace.specs.Faults.{Given}
 use Rattle.trace.specs.Judged.{in_range}
 use Rattle.trace.proofs.Exact.{many}
 use Rattle.trace.proofs.PointLaws.{range_within, within_range}
-use Rattle.listing.specs.Pairs.{Held, low, high, fall, PlanesAnswer, wrong, rise}
-use Rattle.listing.specs.declared.pair.Planes.TheVariants.{Rise, Wrong}
+use Rattle.listing.specs.Pairs.{Held, PlanesWrong, low, high, fall}
+use Rattle.listing.specs.Telling.{Kept, PlanesAnswer, wrong, rise}
 
 -- ---- a trace
 
@@ -27,7 +30,7 @@ pub held_count : {c kept : List ℤ} {m : ℕ} → Held c m kept → count c ≡
 unfolding count
 held_count h = omega (arith, h.counted)
 
-pub held_many : {c kept : List ℤ} {m : ℕ} → Held c m kept → 250 < m → Given c (Unfit Many)
+pub held_many : {c kept : List ℤ} {m : ℕ} → Held c m kept → 250 < m → Given c (Err Many)
 held_many {c} {kept} {m} h k = many even enough (omega (arith, held_count h))
   where
     even : length c % 2 ≡ 1 → ⊥
@@ -36,8 +39,8 @@ held_many {c} {kept} {m} h k = many even enough (omega (arith, held_count h))
     enough : count c < 3 → ⊥
     enough f = omega (arith, held_count h)
 
-pub held_short : {c kept : List ℤ} {m : ℕ} → Held c m kept → m ≤ 250 → length kept < 2 * m → ⊥
-held_short h k l = omega (arith, (h.here k).0)
+pub kept_inside : {kept : List ℤ} {m : ℕ} → Kept m kept → m ≤ 250 → 2 * m ≤ length kept
+kept_inside k few = (k.held.here few).0
 
 pub held_judged : {c kept : List ℤ} {m : ℕ} {r : Judgement} → Held c m kept → m ≤ 250 → Given (take (2 * m) kept) r → Given c r
 held_judged {r = r} h k g = subst (λ (t : List ℤ). Given t r) (h.here k).1 g
@@ -47,14 +50,18 @@ held_judged {r = r} h k g = subst (λ (t : List ℤ). Given t r) (h.here k).1 g
 out : (z : ℤ) → in_range z ≡ false → Within 100000 z → ⊥
 out z e w = let f = within_range z w in let g : ◌≡◌ {A = ℕ} 0 1 = cc in omega arith
 
-pub planes_low : {a b : ℤ} → in_range a ≡ false → PlanesAnswer a b (Wrong 0)
-planes_low {a} e = wrong (low (out a e))
+wrong_at : {a b : ℤ} {k : ℕ} {r : Refusal} → PlanesWrong a b k → r ≡ at Planes k → PlanesAnswer a b (Err r)
+wrong_at {k = k} w e = wrong (record { place = k; wrong = w; is = e })
 
-pub planes_high : {a b : ℤ} → in_range a ≡ true → in_range b ≡ false → PlanesAnswer a b (Wrong 1)
-planes_high {a} {b} d e = wrong (high (range_within a d) (out b e))
+pub planes_low : {a b : ℤ} {r : Refusal} → r ≡ at Planes 0 → in_range a ≡ false → PlanesAnswer a b (Err r)
+planes_low {a} q e = wrong_at (low (out a e)) q
 
-pub planes_fall : {a b : ℤ} → in_range a ≡ true → in_range b ≡ true → le_z b a ≡ true → PlanesAnswer a b (Wrong 1)
-planes_fall {a} {b} d e f = wrong (fall (range_within a d) (range_within b e) (le_z_true b a f))
+pub planes_high : {a b : ℤ} {r : Refusal} → r ≡ at Planes 1 → in_range a ≡ true → in_range b ≡ false → PlanesAnswer a b (Err r)
+planes_high {a} {b} q d e = wrong_at (high (range_within a d) (out b e)) q
 
-pub planes_rise : {a b : ℤ} → in_range a ≡ true → in_range b ≡ true → le_z b a ≡ false → PlanesAnswer a b Rise
+pub planes_fall : {a b : ℤ} {r : Refusal} → r ≡ at Planes 1 → in_range a ≡ true → in_range b ≡ true → le_z b a ≡ true
+    → PlanesAnswer a b (Err r)
+planes_fall {a} {b} q d e f = wrong_at (fall (range_within a d) (range_within b e) (le_z_true b a f)) q
+
+pub planes_rise : {a b : ℤ} {u : Unit} → in_range a ≡ true → in_range b ≡ true → le_z b a ≡ false → PlanesAnswer a b (Ok u)
 planes_rise {a} {b} d e f = rise (record { low_in = range_within a d; high_in = range_within b e; rises = le_z_false b a f })

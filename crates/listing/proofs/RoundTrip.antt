@@ -4,7 +4,7 @@
 use mathlib.Core.Path.{◌≡◌, refl, ap, ap₂, ◌∙◌}
 use mathlib.Core.Bool.{true, false, ◌||◌}
 use mathlib.Core.List.{List, [], ◌∷◌, ◌++◌, map}
-use mathlib.Core.Option.{some}
+use Rattle.std.proofs.Common.{Some}
 use Prim.Native.Nat.{ℕ, suc, ◌+◌, ◌*◌, ◌%◌, ◌≤◌}
 use native.Mathlib.Omega.{arith}
 use lib.IntN.{ℤ, pos, negsuc, neg_ℤ}
@@ -88,7 +88,7 @@ first_word (b ∷ w) u n g = words_word u g
 -- ---- the theorems
 
 -- the decimal digits of a whole number in range are read as that number
-pub written_read : (z : ℤ) → Between 2147483648 2147483647 z → numeral (decimal z) ≡ some z
+pub written_read : (z : ℤ) → Between 2147483648 2147483647 z → numeral (decimal z) ≡ Some z
 written_read z b = (number_exactly (decimal z) z).1 (number_written z b)
 
 -- and with spaces around them they are one word

@@ -1,80 +1,119 @@
--- Amounts and signed words: an amount that is small enough is the same as a signed word, and its opposite fits where it should; the
--- digits of a signed word are those of an amount, behind a minus sign if it is below zero. Assumes nothing.
+-- Amounts and signed words: an amount and its opposite are in range exactly if they fit a signed word of 32 bits; the digits of a
+-- signed word are those of an amount, behind a minus sign if it is below zero. Assumes nothing.
 use mathlib.Core.Path.{◌≡◌, refl, sym, ap, ◌∙◌, subst}
-use mathlib.Core.Bool.{true, false}
-use mathlib.Core.List.{◌∷◌}
-use Prim.Native.Nat.{ℕ, ◌+◌, ◌-◌, ◌^◌, ◌≤◌, ◌<◌}
-use native.Mathlib.Numerals.{add-one}
+use mathlib.Core.Bool.{Bool, true, false, cond}
+use mathlib.Core.List.{List, [], ◌∷◌, ◌++◌}
+use Prim.Native.Nat.{ℕ, zero, suc, ◌+◌, ◌≤◌}
 use native.Mathlib.Omega.{arith}
-use lib.Dec.{T}
-use lib.IntN.{ℤ, pos, negsuc, neg_ℤ, nat_abs, ◌-ℤ◌, +ℤ_idl}
-use lib.Signed.{le_z, non_neg}
-use mir.Syntax.{w64}
-use mir.Val.{Fits, SFits, to_z}
-use mir.ValLaws.{to_z_pos}
-use borrow.Author.Tests.{le-leb}
-use Rattle.whole.proofs.Linear.{up_pos, dn_pos, zsum, znat}
-use Rattle.whole.proofs.Bounds.{up_le, between, zero_within}
-use Rattle.whole.proofs.Machine.{Holds, from, minus}
-use Rattle.whole.proofs.TestLaws.{true≢false}
-use Rattle.listing.specs.Numeral.{digits_of, decimal}
+use lib.Dec.{eqb, leb}
+use lib.ListN.{take, drop}
+use lib.Pointwise.{pointwise}
+use lib.IntN.{ℤ, pos, negsuc, neg_ℤ, nat_abs, ◌+ℤ◌, ◌-ℤ◌, +ℤ_idl}
+use lib.Signed.{mag, lt_z}
+use mir.Syntax.{w32}
+use mir.Val.{SFits}
+use borrow.Author.Tests.{ltb-true, leb-true, leb-false, lt-leb}
+use Rattle.std.proofs.Common.{Option, None, Some, SomeIff}
+use Rattle.whole.proofs.TestLaws.{true≢false, and_true}
+use Rattle.listing.specs.Numeral.{natural, in32_bits, ranged, numeral, digits_of, decimal}
+use Rattle.listing.proofs.NumeralLaws.{and_true_right}
 
--- an amount as an i64
-pub as_signed : (v : ℕ) → v ≤ 2147483648 → Holds 0 2147483648 (to_z w64 v) (pos v)
-as_signed v h = from (to_z_pos w64 v (omega arith)) (between (pos v) (omega (arith, dn_pos v)) (omega (arith, up_pos v)))
+-- ---- a word that is read: a minus sign in front or none, and an amount that is in range or not
 
--- its opposite
-pub opposite : (v : ℕ) → v ≤ 2147483648 → Holds 2147483648 0 (pos 0 -ℤ to_z w64 v) (neg_ℤ (pos v))
-opposite v h =
-    let d = minus (from refl (zero_within 0)) (as_signed v h) in
-    record { is = d.is ∙ +ℤ_idl (neg_ℤ (pos v)); bounds = rw (+ℤ_idl (neg_ℤ (pos v))) at d.bounds }
+in32_is : (z : ℤ) → in32_bits z ≡ leb (mag z) 2147483647
+unfolding in32_bits
+in32_is (pos v) = refl
+in32_is (negsuc n) = and_true_right (leb n 2147483647)
 
--- ---- the digits of a signed word: y is read back from a word that holds z
-
--- not below zero
-pub above_fits : {y z : ℤ} → y ≡ z → le_z (pos 0) y ≡ true → SFits w64 z → T (non_neg y) × Fits w64 (nat_abs y)
-above_fits {y} {z} e h f = go y h (subst (SFits w64) (sym e) f)
+-- what is added to 0, or taken from it, is in range exactly if it fits
+ranged_if : (r : Option ℤ) (z : ℤ) → SomeIff r (SFits w32 z) z → r ≡ cond (in32_bits z) (Some z) None
+ranged_if r z f = go r f (leb (mag z) 2147483647) refl ∙ ap (λ (t : Bool). cond t (Some z) None) (sym (in32_is z))
   where
-    go : (y : ℤ) → le_z (pos 0) y ≡ true → SFits w64 y → T (non_neg y) × Fits w64 (nat_abs y)
-    go (pos v) h f = (tt, record { fits = omega (arith, f.sfits) })
-    go (negsuc v) h f = absurd (true≢false (sym h))
+    go : (r : Option ℤ) → SomeIff r (SFits w32 z) z → (t : Bool) → leb (mag z) 2147483647 ≡ t → r ≡ cond t (Some z) None
+    go None f true e = absurd (f (record { sfits = omega (arith, leb-true (mag z) 2147483647 e) }))
+    go None f false e = refl
+    go (Some y) f true e = ap Some f.1
+    go (Some y) f false e = absurd (omega (arith, leb-false (mag z) 2147483647 e, f.0.sfits))
 
-pub decimal_above : {y z : ℤ} → y ≡ z → le_z (pos 0) y ≡ true → decimal z ≡ digits_of (nat_abs y)
+-- an amount from 2^32 on is out of range
+none_ranged : (sign : ℕ → ℤ) → ((v : ℕ) → v ≤ mag (sign v) + 1) → (o : Option ℕ) → ((v : ℕ) → o ≡ Some v → 4294967296 ≤ v)
+    → ranged sign o ≡ None
+unfolding ranged
+none_ranged sign f None g = refl
+none_ranged sign f (Some v) g =
+    ap (λ (t : Bool). cond t (Some (sign v)) None)
+    (in32_is (sign v) ∙ lt-leb (mag (sign v)) 2147483647 (omega (arith, f v, g v refl)))
+
+minus_mag : (v : ℕ) → v ≤ mag (neg_ℤ (pos v)) + 1
+minus_mag zero = omega arith
+minus_mag (suc n) = omega arith
+
+abbrev pub starts_minus : List ℕ → Bool
+starts_minus w = pointwise eqb (take 1 w) (45 ∷ [])
+
+behind_minus : (w : List ℕ) → starts_minus w ≡ true → numeral w ≡ ranged (λ v. neg_ℤ (pos v)) (natural (drop 1 w))
+unfolding numeral
+behind_minus [] e = absurd (true≢false (sym e))
+behind_minus (b ∷ w) e =
+    ap (λ (t : Bool). cond t (ranged (λ v. neg_ℤ (pos v)) (natural w)) (ranged pos (natural (b ∷ w)))) (and_true (eqb b 45) true e).0
+
+without_minus : (w : List ℕ) → starts_minus w ≡ false → numeral w ≡ ranged pos (natural w)
+unfolding numeral ranged natural
+without_minus [] e = refl
+without_minus (b ∷ w) e =
+    ap (λ (t : Bool). cond t (ranged (λ v. neg_ℤ (pos v)) (natural w)) (ranged pos (natural (b ∷ w)))) (sym (and_true_right (eqb b 45)) ∙ e)
+
+module _ (w d : List ℕ) (m : starts_minus w ≡ true) (q : d ≡ drop 1 w) where
+  pub minus_none : ((v : ℕ) → natural d ≡ Some v → 4294967296 ≤ v) → numeral w ≡ None
+  minus_none f =
+      behind_minus w m ∙ ap (λ (d : List ℕ). ranged (λ v. neg_ℤ (pos v)) (natural d)) (sym q)
+      ∙ none_ranged (λ v. neg_ℤ (pos v)) minus_mag (natural d) f
+
+  pub minus_some : (r : Option ℤ) (v : ℕ) → natural d ≡ Some v → SomeIff r (SFits w32 (pos 0 -ℤ pos v)) (pos 0 -ℤ pos v) → r ≡ numeral w
+  unfolding ranged
+  minus_some r v e f =
+      ranged_if r (pos 0 -ℤ pos v) f ∙ ap (λ (z : ℤ). cond (in32_bits z) (Some z) None) (+ℤ_idl (neg_ℤ (pos v)))
+      ∙ sym (ap (ranged (λ v. neg_ℤ (pos v))) e)
+      ∙ sym (behind_minus w m ∙ ap (λ (d : List ℕ). ranged (λ v. neg_ℤ (pos v)) (natural d)) (sym q))
+
+module _ (w : List ℕ) (m : starts_minus w ≡ false) where
+  pub plain_none : ((v : ℕ) → natural w ≡ Some v → 4294967296 ≤ v) → numeral w ≡ None
+  plain_none f = without_minus w m ∙ none_ranged pos (λ v. omega arith) (natural w) f
+
+  pub plain_some : (r : Option ℤ) (v : ℕ) → natural w ≡ Some v → SomeIff r (SFits w32 (pos 0 +ℤ pos v)) (pos 0 +ℤ pos v) → r ≡ numeral w
+  unfolding ranged
+  plain_some r v e f =
+      ranged_if r (pos 0 +ℤ pos v) f ∙ ap (λ (z : ℤ). cond (in32_bits z) (Some z) None) (+ℤ_idl (pos v))
+      ∙ sym (ap (ranged pos) e) ∙ sym (without_minus w m)
+
+-- ---- a number that is written: y is read back from a word that holds z
+
+-- a minus sign in front of a number below zero
+abbrev pub sign : ℤ → List ℕ
+sign (pos v) = []
+sign (negsuc v) = 45 ∷ []
+
+decimal_is : (z : ℤ) → decimal z ≡ sign z ++ digits_of (nat_abs z)
 unfolding decimal
-decimal_above {y} {z} e h = ap decimal (sym e) ∙ go y h
+decimal_is (pos v) = refl
+decimal_is (negsuc v) = refl
+
+pub decimal_abs : {y z : ℤ} {v : ℕ} → y ≡ z → v ≡ nat_abs y → decimal z ≡ sign z ++ digits_of v
+decimal_abs {z = z} e f = decimal_is z ∙ ap (λ (v : ℕ). sign z ++ digits_of v) (sym (f ∙ ap nat_abs e))
+
+pub sign_minus : {y z : ℤ} → y ≡ z → lt_z y (pos 0) ≡ true → sign z ≡ 45 ∷ []
+sign_minus {z = z} e h = go z (subst (λ (y : ℤ). lt_z y (pos 0) ≡ true) e h)
   where
-    go : (y : ℤ) → le_z (pos 0) y ≡ true → decimal y ≡ digits_of (nat_abs y)
+    go : (z : ℤ) → lt_z z (pos 0) ≡ true → sign z ≡ 45 ∷ []
+    go (pos v) h = absurd (omega (arith, ltb-true v 0 h))
+    go (negsuc v) h = refl
+
+pub sign_none : {y z : ℤ} → y ≡ z → lt_z y (pos 0) ≡ false → sign z ≡ []
+sign_none {z = z} e h = go z (subst (λ (y : ℤ). lt_z y (pos 0) ≡ false) e h)
+  where
+    go : (z : ℤ) → lt_z z (pos 0) ≡ false → sign z ≡ []
     go (pos v) h = refl
-    go (negsuc v) h = absurd (true≢false (sym h))
+    go (negsuc v) h = absurd (true≢false h)
 
--- below zero
-pub record Below (y z : ℤ) : Type 0 where
-  pub under : ℕ
-  pub is : y ≡ negsuc under
-  pub of : z ≡ negsuc under
-  pub small : under < 2 ^ 63
-
-pub below : {y z : ℤ} → y ≡ z → le_z (pos 0) y ≡ false → SFits w64 z → Below y z
-below {y} {z} e h f = go y h (sym e) (subst (SFits w64) (sym e) f)
-  where
-    go : (y : ℤ) → le_z (pos 0) y ≡ false → z ≡ y → SFits w64 y → Below y z
-    go (pos v) h q f = absurd (true≢false (sym (le-leb 0 v (omega arith)) ∙ h))
-    go (negsuc v) h q f = record { under = v; is = refl; of = q; small = f.sfits }
-
--- -1 - y
-minus_one : (v : ℕ) → negsuc 0 -ℤ negsuc v ≡ pos v
-minus_one v = simp zsum (simp znat (omega arith))
-
-pub rest_holds : {y z : ℤ} (b : Below y z) → Holds 0 (2 ^ 63 - 1) (negsuc 0 -ℤ y) (pos b.under)
-rest_holds b = from (ap (λ (y : ℤ). negsuc 0 -ℤ y) b.is ∙ minus_one b.under)
-    (between (pos b.under) (omega (arith, dn_pos b.under)) (omega (arith, up_pos b.under, b.small)))
-
-pub rest_fits : {x : ℤ} {v : ℕ} → Holds 0 (2 ^ 63 - 1) x (pos v) → T (non_neg x) × Fits w64 (nat_abs x)
-rest_fits {x} {v} h = rw h.is (tt, record { fits = omega (arith, up_le h.bounds, up_pos v) })
-
-pub rest_more : {x : ℤ} {v : ℕ} → Holds 0 (2 ^ 63 - 1) x (pos v) → Fits w64 (nat_abs x + 1)
-rest_more {x} {v} h = rw h.is (record { fits = omega (arith, up_le h.bounds, up_pos v) })
-
-pub decimal_below : {x y z : ℤ} (b : Below y z) → x ≡ pos b.under → decimal z ≡ 45 ∷ digits_of (nat_abs x + 1)
-unfolding decimal
-decimal_below b e = ap decimal b.of ∙ ap (λ (n : ℕ). 45 ∷ digits_of n) (sym (add-one b.under) ∙ ap (λ (x : ℤ). nat_abs x + 1) (sym e))
+pub minus_decimal : {y z : ℤ} → y ≡ z → lt_z y (pos 0) ≡ true → decimal z ≡ 45 ∷ digits_of (nat_abs z)
+minus_decimal {z = z} e h = decimal_is z ∙ ap (λ (s : List ℕ). s ++ digits_of (nat_abs z)) (sign_minus e h)

@@ -1,17 +1,18 @@
 -- The lines of the strips that stand one after the other: one line more is the next part's, and each is one byte longer than its strip.
 -- By recursion along the number of strips. Assumes nothing.
-use mathlib.Core.Path.{◌≡◌, sym, ap, ap₂, ◌∙◌, subst}
+use mathlib.Core.Path.{◌≡◌, sym, ap, ◌∙◌, subst}
 use mathlib.Core.List.{List, [], ◌∷◌, ◌++◌, append-nil, append_assoc}
-use Prim.Native.Nat.{ℕ, zero, suc, ◌+◌, ◌-◌, ◌*◌, ◌≤◌, ◌<◌}
+use Prim.Native.Nat.{ℕ, zero, suc, ◌+◌, ◌*◌, ◌≤◌, ◌<◌}
+use native.Mathlib.Numerals.{add-one}
 use native.Mathlib.Omega.{arith}
 use native.Mathlib.Nat.{mul-le-mul_right}
-use lib.ListN.{length, take, drop, length-append, length-map, length-drop, take-append-drop}
+use lib.ListN.{length, take, drop, length-append, length-map, length-drop}
 use lib.Seq.{length-take-le, drop-drop}
 use Rattle.ways.specs.Strip.{Step}
 use Rattle.listing.specs.Lines.{strip_line, strip_lines}
 use Rattle.strip.specs.Bytes.{step_of, steps_of}
 use Rattle.listing.specs.Writing.{Room, Wrote, strips_in}
-use Rattle.listing.proofs.LineLaws.{wrote_then, wrote_length}
+use Rattle.listing.proofs.LineLaws.{wrote_none, wrote_then, wrote_length}
 use Rattle.listing.proofs.LengthLaws.{strip_length}
 
 -- the k-th part
@@ -58,66 +59,53 @@ lines_length steps (suc k) l h =
 
 -- ---- the lines of the first k strips, written
 
-pub record LinesPut (out₀ : List ℕ) (at : ℕ) (l : List ℕ) (steps count : ℕ) (out : List ℕ) (next from k : ℕ) : Type 0 where
-  pub inside : k ≤ count
-  pub placed : from ≡ k * steps
+-- and what is left of the strips
+pub record LinesPut (out₀ : List ℕ) (at : ℕ) (l : List ℕ) (steps : ℕ) (out : List ℕ) (next : ℕ) (rest : List ℕ) (k : ℕ) : Type 0 where
+  pub left : rest ≡ drop (k * steps) l
   pub wrote : Wrote out₀ at (strip_lines (strips_in steps k l)) out next
 
-pub lines_begun : (out : List ℕ) (at : ℕ) (l : List ℕ) (steps count : ℕ) → at ≤ length out → LinesPut out at l steps count out at 0 0
+pub lines_begun : (out : List ℕ) (at : ℕ) (l : List ℕ) (steps : ℕ) → at ≤ length out → LinesPut out at l steps out at l 0
 unfolding strip_lines strips_in
-lines_begun out at l steps count h = record {
-  inside = omega arith;
-  placed = omega arith;
-  wrote = record { next = omega arith; room = h; whole = sym (take-append-drop at out) ∙ ap (λ (x : List ℕ). x ++ drop at out) (sym (append-nil (take at out))) };
-}
+lines_begun out at l steps h = record { left = let z : 0 ≡ 0 * steps = omega arith in ap (λ (n : ℕ). drop n l) z; wrote = wrote_none h }
 
--- there is room for one more
-pub line_room : {out₀ : List ℕ} {at : ℕ} {l : List ℕ} {steps count : ℕ} {out : List ℕ} {next from k : ℕ} → count * steps ≤ length l
-    → Room out₀ at (strip_lines (strips_in steps count l)) → LinesPut out₀ at l steps count out next from k → k < count
-    → Room out next (strip_line (steps_of (part_of steps k l)))
-line_room {out₀} {at} {l} {steps} {count} {out} {next} {from} {k} h r so less = record {
-  fits =
+module _ {out₀ : List ℕ} {at : ℕ} {l : List ℕ} {steps : ℕ} {out : List ℕ} {next : ℕ} {rest : List ℕ} {k : ℕ}
+    (so : LinesPut out₀ at l steps out next rest k) where
+  -- the next strip is there
+  pub part_inside : {count : ℕ} → count * steps ≤ length l → k < count → steps ≤ length rest
+  part_inside {count} h less =
       let fewer : suc k * steps ≤ count * steps = mul-le-mul_right steps less in
-      let longer : suc k * (steps + 1) ≤ count * (steps + 1) = mul-le-mul_right (steps + 1) less in
-      omega (
-        arith,
-        r.fits,
-        lines_length steps count l h,
-        so.wrote.next,
-        lines_length steps k l (omega arith),
-        wrote_length so.wrote,
-        strip_length (steps_of (part_of steps k l)),
-        length-map (part_of steps k l) step_of,
-        part_length steps k l (omega arith),
-      );
-}
+      omega (arith, ap length so.left, length-drop (k * steps) l)
 
-pub line_more : {out₀ : List ℕ} {at : ℕ} {l : List ℕ} {steps count : ℕ} {out out' : List ℕ} {next next' from k : ℕ}
-    → LinesPut out₀ at l steps count out next from k → k < count → Wrote out next (strip_line (steps_of (part_of steps k l))) out' next'
-    → LinesPut out₀ at l steps count out' next' (from + steps) (k + 1)
-line_more {out₀} {at} {l} {steps} {count} {out} {out'} {next} {next'} {from} {k} so less w = record {
-  inside = omega arith;
-  placed = omega (arith, so.placed);
-  wrote =
-      let e : suc k ≡ k + 1 = omega arith in
-      subst (λ (j : ℕ). Wrote out₀ at (strip_lines (strips_in steps j l)) out' next') e
-      (subst (λ (x : List ℕ). Wrote out₀ at x out' next') (sym (lines_more steps k l)) (wrote_then so.wrote w));
-}
+  -- there is room for one line more
+  pub line_room : {count : ℕ} → count * steps ≤ length l → Room out₀ at (strip_lines (strips_in steps count l)) → k < count
+      → Room out next (strip_line (steps_of (take steps rest)))
+  line_room {count} h r less = rw so.left (record {
+    fits =
+        let fewer : suc k * steps ≤ count * steps = mul-le-mul_right steps less in
+        let longer : suc k * (steps + 1) ≤ count * (steps + 1) = mul-le-mul_right (steps + 1) less in
+        omega (
+          arith,
+          r.fits,
+          lines_length steps count l h,
+          so.wrote.next,
+          lines_length steps k l (omega arith),
+          wrote_length so.wrote,
+          strip_length (steps_of (part_of steps k l)),
+          length-map (part_of steps k l) step_of,
+          part_length steps k l (omega arith),
+        );
+  })
 
--- the next part lies inside, and is what the code cuts
-pub part_inside : {out₀ : List ℕ} {at : ℕ} (l : List ℕ) {steps count : ℕ} {out : List ℕ} {next from k : ℕ} → count * steps ≤ length l
-    → LinesPut out₀ at l steps count out next from k → k < count → from + steps ≤ length l
-part_inside l {steps} {count} {k = k} h so less =
-    let fewer : suc k * steps ≤ count * steps = mul-le-mul_right steps less in omega (arith, so.placed)
+  pub line_more : {out' : List ℕ} {next' : ℕ} {behind : List ℕ} → Wrote out next (strip_line (steps_of (take steps rest))) out' next'
+      → behind ≡ drop steps rest → LinesPut out₀ at l steps out' next' behind (k + 1)
+  line_more {out'} {next'} {behind} w e = rw (add-one k) (record {
+    left =
+        let far : steps + k * steps ≡ suc k * steps = omega arith in
+        e ∙ ap (drop steps) so.left ∙ drop-drop steps (k * steps) l ∙ ap (λ (n : ℕ). drop n l) (omega arith);
+    wrote =
+        subst (λ (x : List ℕ). Wrote out₀ at x out' next') (sym (lines_more steps k l))
+        (wrote_then so.wrote (subst (λ (x : List ℕ). Wrote out next (strip_line (steps_of (take steps x))) out' next') so.left w));
+  })
 
-pub part_cut : {out₀ : List ℕ} {at : ℕ} {l : List ℕ} {steps count : ℕ} {out : List ℕ} {next from k : ℕ}
-    → LinesPut out₀ at l steps count out next from k → part_of steps k l ≡ take (from + steps - from) (drop from l)
-part_cut {l = l} {steps = steps} {from = from} {k = k} so =
-    let e : steps ≡ from + steps - from = omega arith in
-    ap₂ (λ (x y : ℕ). take x (drop y l)) e (sym so.placed)
-
-pub lines_done : {out₀ : List ℕ} {at : ℕ} {l : List ℕ} {steps count : ℕ} {out : List ℕ} {next from k : ℕ}
-    → LinesPut out₀ at l steps count out next from k → count ≤ k → Wrote out₀ at (strip_lines (strips_in steps count l)) out next
-lines_done {out₀} {at} {l} {steps} {count} {out} {next} {from} {k} so h =
-    let e : k ≡ count = omega (arith, so.inside) in
-    subst (λ (j : ℕ). Wrote out₀ at (strip_lines (strips_in steps j l)) out next) e so.wrote
+  pub lines_done : {count : ℕ} → k ≡ count → Wrote out₀ at (strip_lines (strips_in steps count l)) out next
+  lines_done e = subst (λ (j : ℕ). Wrote out₀ at (strip_lines (strips_in steps j l)) out next) e so.wrote

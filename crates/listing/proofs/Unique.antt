@@ -18,8 +18,8 @@ use Rattle.ways.proofs.Unique.{first_unique}
 use Rattle.strip.specs.Worth.{value_of}
 use Rattle.strip.specs.Band.{band_six}
 use Rattle.joining.proofs.Exact.{same_beginning}
-use Rattle.listing.specs.declared.Listed.{Listed}
-use Rattle.listing.specs.declared.Listed.TheVariants.{Bytes}
+use Rattle.std.proofs.Common.{Result, Ok}
+use Rattle.fault.specs.declared.Refusal.{Refusal}
 use Rattle.listing.specs.Asked as Asked
 use Rattle.listing.specs.Lines.{value_line, strip_lines}
 use Rattle.listing.specs.Pairs.{PlanesWrong, low, high, fall, PlanesRise}
@@ -81,10 +81,10 @@ listing_unique {t} {y = y} (read {lower = l} {upper = u} {a = a} {b = b} k p) (r
     pair_unique p (rw (w, v, i, j) at q)
 
 -- so are the answer and every byte of the lent slice
-pub answer_unique : {t out x y : List ℕ} {r s : Listed} → ListingAnswer t out x r → ListingAnswer t out y s → (r ≡ s) × (x ≡ y)
+pub answer_unique : {t out x y : List ℕ} {r s : Result ℕ Refusal} → ListingAnswer t out x r → ListingAnswer t out y s → (r ≡ s) × (x ≡ y)
 answer_unique (room h) (room k) = (refl, refl)
 answer_unique (room h) (written k q) = absurd (omega arith)
 answer_unique (written h p) (room k) = absurd (omega arith)
 answer_unique {out = out} (written h p) (written k q) =
     let e = listing_unique p q in
-    (ap (λ (x : List ℕ). Bytes (length x)) e, ap (λ (x : List ℕ). x ++ drop (length x) out) e)
+    (ap (λ (x : List ℕ). Ok (length x)) e, ap (λ (x : List ℕ). x ++ drop (length x) out) e)

@@ -1,7 +1,6 @@
 -- 01, "The listing program": "Input, up to 60,000 bytes: whole numbers .. : lower plane, m, m points, upper plane, n, n points,
 -- nothing more; m and n not negative." "Longer input is TEXT."
-use Rattle.std.specs.Prelude.{cond, List, [], ◌∷◌, ℕ, ◌*◌, leb, ℤ, pos, negsuc, length, take, drop}
-use Rattle.std.proofs.Math.Option.{Option, none, some}
+use Rattle.std.specs.Prelude.{cond, List, [], ◌∷◌, ℕ, ◌*◌, leb, ℤ, pos, negsuc, length, take, drop, Option, Some, None}
 use Rattle.listing.specs.Words.{words}
 use Rattle.listing.specs.Numeral.{numeral}
 
@@ -12,13 +11,13 @@ pub data Reading : Type 0 where
 
 -- a number in front of numbers, if both are there
 unfoldable pub also : Option ℤ → Option (List ℤ) → Option (List ℤ)
-also none l = none
-also (some z) none = none
-also (some z) (some l) = some (z ∷ l)
+also None l = None
+also (Some z) None = None
+also (Some z) (Some l) = Some (z ∷ l)
 
 -- every word a number
 unfoldable pub numbers : List (List ℕ) → Option (List ℤ)
-numbers [] = some []
+numbers [] = Some []
 numbers (w ∷ ws) = also (numeral w) (numbers ws)
 
 -- a plane, a number of points that is not negative, two coordinates a point; and what follows
@@ -43,8 +42,8 @@ with_lower no = text
 with_lower (layer lower a l) = with_upper lower a (layer_of l)
 
 unfoldable pub laid_out : Option (List ℤ) → Reading
-laid_out none = text
-laid_out (some l) = with_lower (layer_of l)
+laid_out None = text
+laid_out (Some l) = with_lower (layer_of l)
 
 unfoldable pub reads : List ℕ → Reading
 reads t = cond (leb (length t) 60000) (laid_out (numbers (words t))) text

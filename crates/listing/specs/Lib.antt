@@ -6,9 +6,7 @@ pub mod Stated
 pub mod Lines
 pub mod Answer
 pub mod Writing
-pub mod Scan
 pub mod Filling
 pub mod Pairs
 pub mod Listing
 pub mod Telling
-pub mod Status

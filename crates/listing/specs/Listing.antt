@@ -1,6 +1,6 @@
 -- 01, "The listing program": every byte that is written for an input. "Output: value and six times the volume, a line each for the
 -- first 1,000 best strips in A and B, then `end`, or `more` if some remain. Else one line `refused`, number, place."
-use Rattle.std.specs.Prelude.{◌≡◌, Bool, true, false, List, [], ◌∷◌, ◌++◌, ℕ, ◌≤◌, ◌<◌, ℤ, ◌-ℤ◌, length, drop}
+use Rattle.std.specs.Prelude.{◌≡◌, Bool, true, false, List, [], ◌∷◌, ◌++◌, ℕ, ◌≤◌, ◌<◌, ℤ, ◌-ℤ◌, length, drop, Result, Ok, Err}
 use Rattle.fault.specs.declared.Refusal.{Refusal}
 use Rattle.fault.specs.declared.Fault.TheVariants.{Room, Planes, Text}
 use Rattle.fault.specs.Number.{number_of}
@@ -11,8 +11,6 @@ use Rattle.strip.specs.Worth.{value_of}
 use Rattle.strip.specs.Band.{band_six}
 use Rattle.joining.specs.Answers.{FirstOf}
 use Rattle.joining.specs.Listing.{Beginning}
-use Rattle.listing.specs.declared.Listed.{Listed}
-use Rattle.listing.specs.declared.Listed.TheVariants.{Bytes, Refused}
 use Rattle.listing.specs.Stated.{Asks}
 use Rattle.listing.specs.Lines.{value_line, strip_lines, end_line, more_line, refused_line}
 use Rattle.listing.specs.Pairs.{PlanesWrong, PlanesRise}
@@ -53,8 +51,8 @@ pub data Listing (t : List ℕ) : List ℕ → Type 0 where
 abbrev pub longest : ℕ
 longest = 501047
 
--- at the front of a slice that held out and holds what is said here
-pub data ListingAnswer (t out : List ℕ) : List ℕ → Listed → Type 0 where
-  room : length out < longest → ListingAnswer t out out (Refused (at Room 0))
+-- the number of bytes, at the front of a slice that held out and holds what is said here; or ROOM
+pub data ListingAnswer (t out : List ℕ) : List ℕ → Result ℕ Refusal → Type 0 where
+  room : length out < longest → ListingAnswer t out out (Err (at Room 0))
   written : {bytes : List ℕ} → longest ≤ length out → Listing t bytes
-      → ListingAnswer t out (bytes ++ drop (length bytes) out) (Bytes (length bytes))
+      → ListingAnswer t out (bytes ++ drop (length bytes) out) (Ok (length bytes))

@@ -1,7 +1,6 @@
 -- 01, "The listing program": "whole numbers in decimal digits (one leading minus sign and leading zeros allowed, from
 -- -2,147,483,648 to 2,147,483,647)". A word read as a number, and a number written as a word.
-use Rattle.std.specs.Prelude.{Bool, true, false, cond, ◌&&◌, List, [], ◌∷◌, ◌++◌, ℕ, zero, suc, ◌+◌, ◌*◌, ◌-◌, ◌/◌, ◌%◌, leb, ltb, eqb, ℤ, pos, negsuc, neg_ℤ}
-use Rattle.std.proofs.Math.Option.{Option, none, some}
+use Rattle.std.specs.Prelude.{Bool, true, false, cond, ◌&&◌, List, [], ◌∷◌, ◌++◌, ℕ, zero, suc, ◌+◌, ◌*◌, ◌-◌, ◌/◌, ◌%◌, leb, ltb, eqb, ℤ, pos, negsuc, neg_ℤ, Option, Some, None}
 use Rattle.std.specs.Int.Signed.{le_z}
 
 -- ---- reading
@@ -21,20 +20,20 @@ amount v (b ∷ w) = amount (v * 10 + (b - 48)) w
 
 -- one digit or more; zeros in front do not count
 unfoldable pub natural : List ℕ → Option ℕ
-natural [] = none
-natural (b ∷ w) = cond (all_digits (b ∷ w)) (some (amount 0 (b ∷ w))) none
+natural [] = None
+natural (b ∷ w) = cond (all_digits (b ∷ w)) (Some (amount 0 (b ∷ w))) None
 
 -- "from -2,147,483,648 to 2,147,483,647"
 unfoldable pub in32_bits : ℤ → Bool
 in32_bits z = le_z (negsuc 2147483647) z && le_z z (pos 2147483647)
 
 unfoldable pub ranged : (ℕ → ℤ) → Option ℕ → Option ℤ
-ranged sign none = none
-ranged sign (some v) = cond (in32_bits (sign v)) (some (sign v)) none
+ranged sign None = None
+ranged sign (Some v) = cond (in32_bits (sign v)) (Some (sign v)) None
 
 -- "one leading minus sign": byte 45
 unfoldable pub numeral : List ℕ → Option ℤ
-numeral [] = none
+numeral [] = None
 numeral (b ∷ w) = cond (eqb b 45) (ranged (λ v. neg_ℤ (pos v)) (natural w)) (ranged pos (natural (b ∷ w)))
 
 -- ---- writing

@@ -2,8 +2,6 @@
 -- stands in the list that was lent for it.
 use Rattle.std.specs.Prelude.{◌≡◌, List, ℕ, ◌*◌, ◌≤◌, ℤ, length, take, ◌≤ℤ◌, ◌<ℤ◌}
 use Rattle.whole.specs.Between.{Within}
-use Rattle.listing.specs.declared.pair.Planes.{Planes}
-use Rattle.listing.specs.declared.pair.Planes.TheVariants.{Rise, Wrong}
 
 -- the trace c has `count` points; if they are no more than 250, they stand in the list
 pub record Held (c : List ℤ) (count : ℕ) (kept : List ℤ) : Type 0 where
@@ -20,7 +18,3 @@ pub record PlanesRise (lower upper : ℤ) : Type 0 where
   pub low_in : Within 100000 lower
   pub high_in : Within 100000 upper
   pub rises : lower <ℤ upper
-
-pub data PlanesAnswer (lower upper : ℤ) : Planes → Type 0 where
-  wrong : {k : ℕ} → PlanesWrong lower upper k → PlanesAnswer lower upper (Wrong k)
-  rise : PlanesRise lower upper → PlanesAnswer lower upper Rise

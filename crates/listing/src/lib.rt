@@ -8,82 +8,66 @@ mod numeral;
 mod pair;
 mod words;
 
-ghost use Rattle.std.specs.Prelude.{◌≤◌, ◌≡◌, length};
+ghost use Rattle.std.specs.Prelude.{◌≤◌, length};
 ghost use Rattle.listing.specs.Listing.{Listing, ListingAnswer, PairListing, longest};
-ghost use Rattle.listing.specs.Telling.{Told, Kept};
+ghost use Rattle.listing.specs.Telling.{Kept, Listed};
 
-use crate::asked::{Parsed, read};
+use crate::asked::{Asked, read};
 use crate::best::list_pair;
-use crate::pair::{Planes, judge_planes, judge_read, tell};
+use crate::pair::{judge_planes, judge_read, tell};
 use fault::{Fault, Refusal, refuse};
-use trace::Judgement;
-
-// The number of bytes written, or ROOM.
-#[derive(Clone, Copy)]
-pub enum Listed {
-    Bytes(usize),
-    Refused(Refusal),
-}
 
 // The bytes of the longest listing.
 pub const LONGEST: usize = 501_047;
 
-// Takes every text. What the program prints stands at the front of `out`, a refusal too; `out` must have room for the longest listing.
-pub fn listing(text: &[u8], out: &mut [u8]) -> Listed
+// Takes every text, and answers how many bytes are written. What the program prints stands at the front of `out`, a refusal too; `out`
+// must have room for the longest listing, else ROOM.
+pub fn listing(text: &[u8], out: &mut [u8]) -> Result<usize, Refusal>
     ensures { ListingAnswer text.now out.old out.new result }
 {
     if out.len() < LONGEST {
-        return Listed::Refused(refuse(Fault::Room, 0));
+        return Err(refuse(Fault::Room, 0));
     }
-    Listed::Bytes(answer(text, out))
+    match answer(text, out) {
+        Ok(bytes) => Ok(bytes),
+        Err(refusal) => Ok(tell(out, refusal)),
+    }
 }
 
-// No coordinates yet: two for each of 250 points.
-fn no_coords() -> [i32; 500]
-    ensures { 500 ≡ length result }
-{
-    [0i32; 500]
-}
-
-// The text is read: TEXT, or what is to be said of the pair.
-fn answer(text: &[u8], out: &mut [u8]) -> usize
+// The text is read, and the pair that it asks for is listed; or TEXT.
+fn answer(text: &[u8], out: &mut [u8]) -> Result<usize, Refusal>
     requires { longest ≤ length out.old }
-    ensures { Told (Listing text.now) out.old out.new result }
+    ensures { Listed (Listing text.now) out.old out.new result }
 {
-    let mut a = no_coords();
-    let mut b = no_coords();
-    let parsed = read(text, &mut a, &mut b);
-    let Parsed::Pair { lower, m, upper, n } = parsed else {
-        return tell(out, refuse(Fault::Text, 0));
-    };
-    answer_pair(out, lower, &a, m, upper, &b, n)
+    // Two coordinates for each of 250 points.
+    let mut a = [0i32; 500];
+    let mut b = [0i32; 500];
+    let asked = read(text, &mut a, &mut b).ok_or(refuse(Fault::Text, 0))?;
+    answer_pair(out, asked, &a, &b)
 }
 
 // Trace by trace, then the planes; then the best strips.
-fn answer_pair(
-    out: &mut [u8],
-    lower: i32,
-    a: &[i32],
-    m: usize,
-    upper: i32,
-    b: &[i32],
-    n: usize,
-) -> usize
-    requires { (longest ≤ length out.old) × Kept m a.now × Kept n b.now }
-    ensures { (ka : Kept m a.now) (kb : Kept n b.now)
-        → Told (PairListing lower ka.trace upper kb.trace) out.old out.new result }
+fn answer_pair(out: &mut [u8], asked: Asked, a: &[i32], b: &[i32]) -> Result<usize, Refusal>
+    requires { (longest ≤ length out.old) × Kept asked.lower.count a.now × Kept asked.upper.count b.now }
+    ensures { (ka : Kept asked.lower.count a.now) (kb : Kept asked.upper.count b.now)
+        → Listed (PairListing asked.lower.plane ka.trace asked.upper.plane kb.trace) out.old out.new result }
 {
-    let judged = judge_read(a, m);
-    let Judgement::Fit { area, count: _ } = judged else {
-        return tell(out, trace::refused(judged, 0));
+    let Asked { lower, upper } = asked;
+    let judged = judge_read(a, lower.count);
+    let Ok(below) = judged else {
+        return Err(trace::refused(judged, 0));
     };
-    let areas = area;
-    let judged = judge_read(b, n);
-    let Judgement::Fit { area, count: _ } = judged else {
-        return tell(out, trace::refused(judged, 1));
+    let judged = judge_read(b, upper.count);
+    let Ok(above) = judged else {
+        return Err(trace::refused(judged, 1));
     };
-    match judge_planes(lower, upper) {
-        Planes::Wrong(place) => tell(out, refuse(Fault::Planes, place)),
-        Planes::Rise => list_pair(out, &a[..2 * m], &b[..2 * n], upper - lower, areas + area),
-    }
+    judge_planes(lower.plane, upper.plane)?;
+    let (a, b) = (&a[..2 * lower.count], &b[..2 * upper.count]);
+    list_pair(
+        out,
+        a,
+        b,
+        upper.plane - lower.plane,
+        below.area + above.area,
+    )
 }

@@ -4,53 +4,46 @@ ghost use Rattle.trace.specs.Faults.{Given};
 ghost use Rattle.fault.specs.Number.{number_of};
 ghost use Rattle.listing.specs.Lines.{refused_line};
 ghost use Rattle.listing.specs.Writing.{Wrote};
-ghost use Rattle.listing.specs.Pairs.{Held, PlanesAnswer};
+ghost use Rattle.listing.specs.Pairs.{Held};
+ghost use Rattle.listing.specs.Telling.{Kept, PlanesAnswer};
 
-use crate::lines::put_refused;
-use fault::{Fault, Refusal, number};
-use trace::{Judgement, in_range};
+use crate::lines::Page;
+use fault::{Fault, Refusal, refuse};
+use trace::{Fit, in_range};
 
 // The judgement of a trace of `count` points, of which no more than 250 were kept: over 250 points are MANY, whatever they are.
-pub(crate) fn judge_read(kept: &[i32], count: usize) -> Judgement
+pub(crate) fn judge_read(kept: &[i32], count: usize) -> Result<Fit, Fault>
+    requires { Kept count kept.now }
     ensures { (c : List ℤ) → Held c count kept.now → Given c result }
 {
     if 250 < count {
-        return Judgement::Unfit(Fault::Many);
+        return Err(Fault::Many);
     }
-    let end = 2 * count;
-    if kept.len() < end {
-        return Judgement::Unfit(Fault::Many);
-    }
-    trace::judge(&kept[..end])
+    trace::judge(&kept[..2 * count])
 }
 
-// The one line of a refusal.
+// PLANES at the lowest plane out of range or not above the one below.
+pub(crate) fn judge_planes(lower: i32, upper: i32) -> Result<(), Refusal>
+    ensures { PlanesAnswer lower upper result }
+{
+    if !in_range(lower) {
+        return Err(refuse(Fault::Planes, 0));
+    }
+    if !in_range(upper) {
+        return Err(refuse(Fault::Planes, 1));
+    }
+    if upper <= lower {
+        return Err(refuse(Fault::Planes, 1));
+    }
+    Ok(())
+}
+
+// The one line of a refusal. (Its `Display` writes the same, but no contract says so.)
 pub(crate) fn tell(out: &mut [u8], refusal: Refusal) -> usize
     requires { 33 ≤ length out.old }
     ensures { Wrote out.old 0 (refused_line (number_of refusal.fault) refusal.place) out.new result }
 {
-    let fault = refusal.fault;
-    put_refused(out, 0, number(fault), refusal.place)
-}
-
-// The lowest plane out of range or not above the one below.
-#[derive(Clone, Copy)]
-pub(crate) enum Planes {
-    Rise,
-    Wrong(usize),
-}
-
-pub(crate) fn judge_planes(lower: i32, upper: i32) -> Planes
-    ensures { PlanesAnswer lower upper result }
-{
-    if !in_range(lower) {
-        return Planes::Wrong(0);
-    }
-    if !in_range(upper) {
-        return Planes::Wrong(1);
-    }
-    if upper <= lower {
-        return Planes::Wrong(1);
-    }
-    Planes::Rise
+    let mut page = Page::new(out);
+    page.put_refused(u8::from(refusal.fault), refusal.place);
+    page.written()
 }

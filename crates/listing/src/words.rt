@@ -1,43 +1,36 @@
 // Words, and the bytes that part them.
-ghost use Rattle.std.specs.Prelude.{◌≡◌};
-ghost use Rattle.listing.specs.Words.{parting};
-ghost use Rattle.listing.specs.Scan.{space_at, word_at, Skipped};
+ghost use Rattle.std.specs.Prelude.{◌≡◌, [], ◌∷◌, MatchOption, not, length, position, take_while};
+ghost use Rattle.listing.specs.Words.{parting, words};
 
+#[tactic(auto, unfolding(crate::specs::Words::parting))]
 fn parts(byte: u8) -> bool
     ensures { result ≡ parting byte }
 {
-    (byte == 32) | (byte == 10)
+    (byte == b' ') | (byte == b'\n')
 }
 
-// Whether a byte that parts words stands at `at`.
-fn space_at(text: &[u8], at: usize) -> bool
-    ensures { result ≡ space_at text.now at }
+// Where the first word begins.
+fn word_start(text: &[u8]) -> Option<usize>
+    ensures { result ≡ position (λ b. not (parting b)) text.now }
 {
-    if at < text.len() {
-        parts(text[at])
-    } else {
-        false
-    }
+    text.iter().position(|byte| !parts(*byte))
 }
 
-// Whether a byte of a word stands at `at`.
-pub(crate) fn word_at(text: &[u8], at: usize) -> bool
-    ensures { result ≡ word_at text.now at }
+// How long the word is that begins the text.
+fn word_length(text: &[u8]) -> usize
+    ensures { result ≡ length (take_while (λ b. not (parting b)) text.now) }
 {
-    if at < text.len() {
-        !parts(text[at])
-    } else {
-        false
-    }
+    text.iter().take_while(|byte| !parts(**byte)).count()
 }
 
-// From `at` on, past all bytes that part words.
-pub(crate) fn skip(text: &[u8], at: usize) -> usize
-    ensures { Skipped text.now at result }
+// Takes the next word off the front of the text, with the bytes that part it from what stands before it. There is none if only bytes
+// that part words are left.
+pub(crate) fn next_word<'a>(rest: &mut &'a [u8]) -> Option<&'a [u8]>
+    ensures { MatchOption result (words rest.old.now ≡ []) (λ w. words rest.old.now ≡ w.now ∷ words rest.new.now) }
 {
-    let mut k = at;
-    while space_at(text, k) {
-        k += 1;
-    }
-    k
+    let all: &'a [u8] = *rest;
+    let from = &all[word_start(all)?..];
+    let (word, behind) = from.split_at(word_length(from));
+    *rest = behind;
+    Some(word)
 }

@@ -10,17 +10,16 @@ use Prim.Native.Nat.{ℕ, ◌-◌, ◌*◌, ◌/◌, ◌<◌}
 use native.Mathlib.Omega.{arith}
 use lib.IntN.{ℤ}
 use lib.ListN.{length, get_or}
+use Rattle.std.specs.Prelude.{Result, Ok, Err}
 use Rattle.whole.specs.Between.{Within}
+use Rattle.fault.specs.declared.Refusal.{Refusal}
 use Rattle.stack.specs.declared.Layer.{Layer}
 use Rattle.stack.specs.Faults.{AcceptedStack}
 use Rattle.stack.specs.Strips.{StripsRight}
 use Rattle.fault.proofs.GateLaws.{due_single, holds, one_stop, stopped_not_passed}
 use Rattle.stack.proofs.Cases.{stack_single, stack_open, strips_single, strips_open}
 use Rattle.stack.proofs.StackLaws.{accepted_count}
-use Rattle.mesh.specs.declared.Volumed.{Volumed}
-use Rattle.mesh.specs.declared.Volumed.TheVariants as volume-is
-use Rattle.mesh.specs.declared.Meshed.{Meshed}
-use Rattle.mesh.specs.declared.Meshed.TheVariants as mesh-is
+use Rattle.mesh.specs.declared.Closed.{Closed}
 use Rattle.mesh.specs.Meshing.{volume_gates, list_gates, Measured, Triangled, six, whole, ClosedList}
 use Rattle.mesh.specs.Meshing as answer
 use Rattle.mesh.specs.Triangles.{sides}
@@ -76,7 +75,7 @@ module _ {es : List Layer} {c : List ℤ} {l : List ℕ} (a : AcceptedStack es c
 
 -- So what `triangles` answers beside a list is its number of triangles and the sum of its determinants, and its sides balance.
 pub answered_list_is_closed : {es : List Layer} {c : List ℤ} {l out new : List ℕ} {n : ℕ} {s : ℤ}
-    → Triangled es c l out new (mesh-is.Closed n s) → ClosedList es c (closed es l) n s
+    → Triangled es c l out new (Ok (record { triangles = n; six = s })) → ClosedList es c (closed es l) n s
 answered_list_is_closed (whole a _ r) = record {
   number = sym (closed_length r (omega (arith, a.layers.two)));
   volume = refl;
@@ -86,16 +85,16 @@ answered_list_is_closed (whole a _ r) = record {
 -- ---- two outcomes that the contracts allow for one input coincide
 
 module _ {es : List Layer} {c : List ℤ} {l : List ℕ} where
-  pub measured_once : {r s : Volumed} → Measured es c l r → Measured es c l s → r ≡ s
+  pub measured_once : {r s : Result ℤ Refusal} → Measured es c l r → Measured es c l s → r ≡ s
   measured_once (answer.Measured.refused {r = r} x) (answer.Measured.refused {r = q} y) =
-      ap volume-is.Refused (one_stop (volume_gates es c l) (stack_single, (strips_single, tt)) r q x y)
+      ap Err (one_stop (volume_gates es c l) (stack_single, (strips_single, tt)) r q x y)
   measured_once (answer.Measured.refused {r = r} x) (six a s) = absurd (stopped_not_passed (volume_gates es c l) r x (stack_open a, (strips_open s, tt)))
   measured_once (six a s) (answer.Measured.refused {r = r} x) = absurd (stopped_not_passed (volume_gates es c l) r x (stack_open a, (strips_open s, tt)))
   measured_once (six _ _) (six _ _) = refl
 
-  pub triangled_once : {out new old : List ℕ} {r s : Meshed} → Triangled es c l out new r → Triangled es c l out old s → (new ≡ old) × (r ≡ s)
+  pub triangled_once : {out new old : List ℕ} {r s : Result Closed Refusal} → Triangled es c l out new r → Triangled es c l out old s → (new ≡ old) × (r ≡ s)
   triangled_once {out} (answer.Triangled.refused {r = r} x) (answer.Triangled.refused {r = q} y) =
-      (refl, ap mesh-is.Refused (one_stop (list_gates es c l out) (stack_single, (due_single, (strips_single, tt))) r q x y))
+      (refl, ap Err (one_stop (list_gates es c l out) (stack_single, (due_single, (strips_single, tt))) r q x y))
   triangled_once {out} (answer.Triangled.refused {r = r} x) (whole a h s) =
       absurd (stopped_not_passed (list_gates es c l out) r x (stack_open a, (holds h, (strips_open s, tt))))
   triangled_once {out} (whole a h s) (answer.Triangled.refused {r = r} x) =

@@ -4,7 +4,6 @@
 -- The border goes by weights of sides (`Balance`): one triangle more adds a segment of the trace, and the open side to P0 moves on.
 -- Assumes nothing.
 use mathlib.Core.Path.{◌≡◌, refl, ap, ◌∙◌, subst}
-use mathlib.Core.Bool.{Bool, true, false}
 use mathlib.Core.List.{List, [], ◌∷◌, map, map-append, map-id}
 use Prim.Native.Nat.{ℕ, zero, suc, ◌+◌, ◌-◌, ◌*◌, ◌≤◌, ◌<◌}
 use native.Mathlib.Numerals.{add-one}
@@ -15,6 +14,8 @@ use Rattle.stack.specs.declared.Layer.{Layer}
 use Rattle.mesh.specs.Triangles.{Tri, tri, turned, fan_tri, fan_to}
 use Rattle.mesh.specs.Closed.{ring, bottom_cap, top_cap}
 use Rattle.mesh.specs.Writing.{Put, facing, cap_of}
+use Rattle.mesh.specs.declared.writers.Cap.{Cap}
+use Rattle.mesh.specs.declared.writers.Cap.TheVariants.{Bottom, Top}
 use Rattle.mesh.proofs.Balance.{total, reversed, rim, Rim, total_append}
 use Rattle.mesh.proofs.Corners.{Corners, empty, all, corners_append}
 use Rattle.mesh.proofs.Rings.{ring_round}
@@ -27,10 +28,10 @@ unfolding fan_to
 fan_length p zero = refl
 fan_length p (suc n) = length-append (fan_to p n) (fan_tri p (suc n) ∷ []) ∙ ap (λ (m : ℕ). m + 1) (fan_length p n) ∙ add-one n
 
-pub cap_length : (bottom : Bool) (e : Layer) → length (cap_of bottom e) ≡ e.count - 2
+pub cap_length : (cap : Cap) (e : Layer) → length (cap_of cap e) ≡ e.count - 2
 unfolding bottom_cap top_cap
-cap_length true e = length-map (top_cap e) turned ∙ fan_length (ring e) (e.count - 2)
-cap_length false e = fan_length (ring e) (e.count - 2)
+cap_length Bottom e = length-map (top_cap e) turned ∙ fan_length (ring e) (e.count - 2)
+cap_length Top e = fan_length (ring e) (e.count - 2)
 
 pub cap_corners : {P : ℕ → Type 0} (e : Layer) → ((i : ℕ) → P (ring e i)) → Corners P (top_cap e)
 unfolding top_cap fan_to
@@ -61,41 +62,41 @@ cap_rim e h = fan_border (ring e) e.count (e.count - 2) (omega arith) (ring_roun
 -- ---- its writer
 
 -- k triangles are written
-pub record CapSo (bottom : Bool) (e : Layer) (k : ℕ) (old new : List ℕ) : Type 0 where
+pub record CapSo (cap : Cap) (e : Layer) (k : ℕ) (old new : List ℕ) : Type 0 where
   pub here : k ≤ e.count - 2
-  pub wrote : Wrote (map (facing bottom) (fan_to (ring e) k)) (3 * k) old new
+  pub wrote : Wrote (map (facing cap) (fan_to (ring e) k)) (3 * k) old new
 
 -- all of them are the cap
-whole : (bottom : Bool) (e : Layer) → map (facing bottom) (fan_to (ring e) (e.count - 2)) ≡ cap_of bottom e
+whole : (cap : Cap) (e : Layer) → map (facing cap) (fan_to (ring e) (e.count - 2)) ≡ cap_of cap e
 unfolding bottom_cap top_cap
-whole true e = refl
-whole false e = map-id (top_cap e)
+whole Bottom e = refl
+whole Top e = map-id (top_cap e)
 
-pub cap_begun : (bottom : Bool) (e : Layer) (out : List ℕ) → CapSo bottom e 0 out out
+pub cap_begun : (cap : Cap) (e : Layer) (out : List ℕ) → CapSo cap e 0 out out
 unfolding fan_to
-cap_begun bottom e out = record { here = omega arith; wrote = wrote_none out }
+cap_begun cap e out = record { here = omega arith; wrote = wrote_none out }
 
-module _ {bottom : Bool} {e : Layer} {k : ℕ} {old out : List ℕ} (s : CapSo bottom e k old out) where
+module _ {cap : Cap} {e : Layer} {k : ℕ} {old out : List ℕ} (s : CapSo cap e k old out) where
   pub cap_room : suc (suc k) < e.count → 3 * (e.count - 2) ≤ length old → 3 * k + 3 ≤ length out
   cap_room h r = omega (arith, s.wrote.long)
 
-  pub cap_more : {part : List ℕ} → suc (suc k) < e.count → Put (facing bottom (fan_tri (ring e) (suc k)) ∷ []) (behind (3 * k) out) part
-      → length part ≡ length (behind (3 * k) out) → CapSo bottom e (k + 1) old (back (3 * k) out part)
+  pub cap_more : {part : List ℕ} → suc (suc k) < e.count → Put (facing cap (fan_tri (ring e) (suc k)) ∷ []) (behind (3 * k) out) part
+      → length part ≡ length (behind (3 * k) out) → CapSo cap e (k + 1) old (back (3 * k) out part)
   unfolding fan_to
   cap_more h f g = rw (add-one k) (record {
     here = omega arith;
-    wrote = rw (map-append (facing bottom) (fan_to (ring e) k) (fan_tri (ring e) (suc k) ∷ []))
+    wrote = rw (map-append (facing cap) (fan_to (ring e) k) (fan_tri (ring e) (suc k) ∷ []))
         (wrote_more (3 * suc k) s.wrote f g (omega arith));
   })
 
-  pub cap_done : e.count ≤ suc (suc k) → Put (cap_of bottom e) old out
+  pub cap_done : e.count ≤ suc (suc k) → Put (cap_of cap e) old out
   cap_done h =
       let n : k ≡ e.count - 2 = omega (arith, s.here) in
-      subst (λ (ts : List Tri). Put ts old out) (ap (λ (n : ℕ). map (facing bottom) (fan_to (ring e) n)) n ∙ whole bottom e) s.wrote.filled
+      subst (λ (ts : List Tri). Put ts old out) (ap (λ (n : ℕ). map (facing cap) (fan_to (ring e) n)) n ∙ whole cap e) s.wrote.filled
 
 -- one triangle, by its corners
 pub cap_placed : (e : Layer) (k : ℕ) {u v w : ℕ} {old new : List ℕ} → u ≡ ring e 0 → v ≡ ring e (k + 1) → w ≡ ring e (k + 2)
-    → {b d : Bool} → b ≡ d → Put (facing d (tri u v w) ∷ []) old new → Put (facing b (fan_tri (ring e) (suc k)) ∷ []) old new
+    → {b d : Cap} → b ≡ d → Put (facing d (tri u v w) ∷ []) old new → Put (facing b (fan_tri (ring e) (suc k)) ∷ []) old new
 cap_placed e k {u} {v} {w} {old} {new} eu ev ew {b} {d} q f =
     let two : k + 2 ≡ suc (suc k) = omega arith in
     let t : tri u v w ≡ fan_tri (ring e) (suc k) = corners eu (ev ∙ ap (ring e) (add-one k)) (ew ∙ ap (ring e) two) in

@@ -6,7 +6,6 @@ mod Cases
 mod Corners
 mod Rings
 mod Caps
-mod Parts
 mod Stacked
 mod SixLaws
 mod MeshLaws

@@ -4,6 +4,5 @@ pub mod Volume
 pub mod Closed
 pub mod Bands
 pub mod Meshing
-pub mod Status
 pub mod Working
 pub mod Writing

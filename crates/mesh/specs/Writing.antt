@@ -1,13 +1,13 @@
 -- Inner: what the writers of the closed list ask and do. No public contract cites this file.
-use Rattle.std.specs.Prelude.{◌≡◌, Bool, true, false, List, [], ◌∷◌, ℕ, ◌+◌, ◌≤◌, ◌<◌, length}
+use Rattle.std.specs.Prelude.{◌≡◌, List, [], ◌∷◌, ℕ, ◌+◌, ◌≤◌, ◌<◌, length}
 use Rattle.whole.specs.Filled.{Filled}
 use Rattle.ways.specs.Strip.{steps_a, steps_b}
 use Rattle.stack.specs.declared.Layer.{Layer}
-use Rattle.stack.specs.declared.Stack.{Stack}
 use Rattle.stack.specs.Entries.{entry, stop}
 use Rattle.stack.specs.Strips.{StripsRight}
-use Rattle.stack.specs.Laid.{laid}
 use Rattle.mesh.specs.declared.writers.Pair.{Pair}
+use Rattle.mesh.specs.declared.writers.Cap.{Cap}
+use Rattle.mesh.specs.declared.writers.Cap.TheVariants.{Bottom, Top}
 use Rattle.mesh.specs.Triangles.{Tri, turned, step_tri}
 use Rattle.strip.specs.Bytes.{step_of}
 use Rattle.mesh.specs.Closed.{ring, bottom_cap, top_cap, numbers}
@@ -22,22 +22,21 @@ pub record Numbered (e : Layer) : Type 0 where
   pub few : stop e ≤ 5000
 
 -- a triangle of the bottom cap or of the top cap: seen from below it runs the other way round
-abbrev pub facing : Bool → Tri → Tri
-facing true t = turned t
-facing false t = t
+abbrev pub facing : Cap → Tri → Tri
+facing Bottom t = turned t
+facing Top t = t
 
 -- the bottom cap or the top cap of a layer
-abbrev pub cap_of : Bool → Layer → List Tri
-cap_of true e = bottom_cap e
-cap_of false e = top_cap e
+abbrev pub cap_of : Cap → Layer → List Tri
+cap_of Bottom e = bottom_cap e
+cap_of Top e = top_cap e
 
 -- a stack with its strips, of which the list can be written
-pub record Drawn (st : Stack) (l : List ℕ) : Type 0 where
-  pub some : 0 < st.count
-  pub twenty : st.count ≤ 20
-  pub numbered : (k : ℕ) → k < st.count → Numbered (entry (laid st) k)
-  pub three : (k : ℕ) → k < st.count → 3 ≤ (entry (laid st) k).count
-  pub strips : StripsRight (laid st) l
+pub record Drawn (es : List Layer) (l : List ℕ) : Type 0 where
+  pub some : 0 < length es
+  pub numbered : (k : ℕ) → k < length es → Numbered (entry es k)
+  pub three : (k : ℕ) → k < length es → 3 ≤ (entry es k).count
+  pub strips : StripsRight es l
 
 -- what a step from the pair p asks
 pub record StepReady (d e : Layer) (p : Pair) (byte : ℕ) (out : List ℕ) : Type 0 where

@@ -1,16 +1,17 @@
 -- What the checks find, beyond 01: an accepted file in which one byte is changed, or two unequal bytes of one block's contents are
 -- exchanged, or two blocks are, is refused with CHECK at the lowest block touched, and nothing is shown. By the theorems of `blocks`:
 -- 65,521 is prime, and the number of a block counts. Assumes nothing.
+use Rattle.std.specs.Prelude.{Result, Err}
 use mathlib.Core.Path.{◌≡◌, refl, ap, subst}
 use mathlib.Core.Logic.{inl, inr}
 use mathlib.Core.List.{List}
 use Prim.Native.Nat.{ℕ, ◌*◌, ◌/◌, ◌%◌, ◌<◌, min}
 use native.Mathlib.Omega.{arith}
 use lib.ListN.{length, get_or, set}
+use Rattle.fault.specs.declared.Refusal.{Refusal}
 use Rattle.fault.specs.declared.Fault.TheVariants.{Check}
 use Rattle.fault.specs.Gates.{at}
 use Rattle.blocks.specs.Faults.{Sound, BlocksJudged}
-use Rattle.blocks.specs.declared.BlocksJudgement.TheVariants as blocks-are
 use Rattle.blocks.specs.Exchanged.{exchanged, exchanged_blocks}
 use Rattle.blocks.proofs.Cases.{blocks_single, blocks_open, blocks_stopped}
 use Rattle.blocks.proofs.Changes.{one_byte_refused, two_bytes_refused, two_blocks_refused}
@@ -20,10 +21,10 @@ use Rattle.register.specs.Reading as read
 use Rattle.register.specs.Accepted.{IsFile, Caught}
 use Rattle.register.proofs.RoundTrip.{blocks_in, file_sound}
 
-caught : (g : List ℕ) (b : ℕ) → BlocksJudged g (blocks-are.Refused (at Check b)) → Caught g b
+caught : (g : List ℕ) (b : ℕ) → BlocksJudged g (Err (at Check b)) → Caught g b
 caught g b j = record { refused = of }
   where
-    of : {x y : Lent} {r : FileRead} → ReadAnswer g x y r → (r ≡ lost (at Check b)) × (y ≡ x)
+    of : {x y : Lent} {r : Result FileRead Refusal} → ReadAnswer g x y r → (r ≡ lost (at Check b)) × (y ≡ x)
     of (read.ReadAnswer.refused {r = r} (inl k)) = (ap lost (blocks_single r (at Check b) k (blocks_stopped j)), refl)
     of (read.ReadAnswer.refused (inr k)) = absurd (k.0 (at Check b) (blocks_stopped j))
     of (read.ReadAnswer.held h _) = absurd (blocks_open h.sound (at Check b) (blocks_stopped j))

@@ -197,18 +197,24 @@ numbers_at_lem (suc n) k (suc j) h =
 
 -- ---- bytes by their places
 
-pub two_at : (k : List ℕ) (at a b : ℕ) → a ≡ get_or k at 0 → b ≡ get_or k (at + 1) 0 → a + 256 * b ≡ two_of (drop at k)
-unfolding two_of
-two_at k at a b p q =
-    let none : at + 0 ≡ at = omega arith in
-    ap₂ (λ (x y : ℕ). x + 256 * y) (p ∙ sym (get_or-drop at k 0 0 ∙ ap (λ (i : ℕ). get_or k i 0) none)) (q ∙ sym (get_or-drop at k 1 0))
+module _ (k : List ℕ) (at : ℕ) (bytes : List ℕ) where
+  pub two_at : ((i : ℕ) → i < 2 → get_or bytes i 0 ≡ get_or k (at + i) 0) → get_or bytes 0 0 + get_or bytes 1 0 * 256 ≡ two_of (drop at k)
+  unfolding two_of
+  two_at read =
+      omega (arith, read 0 (omega arith), read 1 (omega arith), get_or-drop at k 0 0, get_or-drop at k 1 0)
 
-pub four_at : (k : List ℕ) (at low high : ℕ) → low ≡ two_of (drop at k) → high ≡ two_of (drop (at + 2) k)
-    → low + 65536 * high ≡ four_of (drop at k)
-unfolding four_of two_of
-four_at k at low high p q =
-    let r : List ℕ = drop at k in
-    let there : high ≡ get_or r 2 0 + 256 * get_or r 3 0 =
-    q ∙ ap (λ (l : List ℕ). get_or l 0 0 + 256 * get_or l 1 0) (sym (drop-drop 2 at k))
-    ∙ ap₂ (λ (x y : ℕ). x + 256 * y) (get_or-drop 2 r 0 0) (get_or-drop 2 r 1 0) in
-    omega (arith, p)
+  pub four_at : ((i : ℕ) → i < 4 → get_or bytes i 0 ≡ get_or k (at + i) 0)
+      → get_or bytes 0 0 + get_or bytes 1 0 * 256 + get_or bytes 2 0 * 65536 + get_or bytes 3 0 * 16777216 ≡ four_of (drop at k)
+  unfolding four_of
+  four_at read =
+      omega (
+        arith,
+        read 0 (omega arith),
+        read 1 (omega arith),
+        read 2 (omega arith),
+        read 3 (omega arith),
+        get_or-drop at k 0 0,
+        get_or-drop at k 1 0,
+        get_or-drop at k 2 0,
+        get_or-drop at k 3 0,
+      )

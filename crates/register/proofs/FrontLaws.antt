@@ -1,17 +1,23 @@
 -- Writing the coordinates at the front of a lent slice, layer by layer, where the part behind what is written is lent on. Assumes nothing.
-use mathlib.Core.Path.{◌≡◌, refl, sym, ap, ap₂, ◌∙◌}
+use mathlib.Core.Path.{◌≡◌, refl, sym, ap, ap₂, ◌∙◌, subst}
 use mathlib.Core.List.{List, [], ◌++◌, append_assoc, append-nil}
 use Prim.Native.Nat.{ℕ, zero, suc, ◌+◌, ◌*◌, ◌-◌, ◌≤◌, ◌<◌}
 use native.Mathlib.Numerals.{add-one}
 use native.Mathlib.Omega.{arith}
 use lib.IntN.{ℤ}
-use lib.ListN.{length, drop, length-append}
+use mir.Syntax.{w8}
+use mir.Val.{Fits}
+use lib.ListN.{length, get_or, drop, length-append}
 use lib.Seq.{drop-drop}
 use Rattle.whole.specs.Filled.{Filled}
 use Rattle.whole.proofs.Filling.{behind, back, filled_more, back_long}
-use Rattle.register.specs.Decoding.{numbers, count_here, past, coords_from, place_of}
-use Rattle.register.proofs.DecodeLaws.{numbers_long}
-use Rattle.register.proofs.GatherLaws.{place_next}
+use Rattle.stack.specs.declared.Layer.{Layer}
+use Rattle.stack.specs.Entries.{entry, start}
+use Rattle.register.specs.Answering.{Layered}
+use Rattle.register.specs.Decoding.{layer_here, layers_from, layers_of, coords_of, numbers, count_here, past, coords_from, place_of}
+use Rattle.register.proofs.DecodeLaws.{Bytes, bytes_drop, two_of_small, numbers_long}
+use Rattle.register.proofs.GatherLaws.{place_next, layer_placed}
+use Rattle.register.proofs.ExtentLaws.{layered_many}
 
 -- ---- the coordinates, layer by layer
 
@@ -100,3 +106,60 @@ module _ {contents : List ℕ} {n k first : ℕ} {old new : List ℤ} (s : Coord
       let all : coords_from n (drop 2 contents) ≡ s.done =
       s.rest ∙ ap (λ (i : ℕ). s.done ++ coords_from i (drop (place_of k first) contents)) none ∙ append-nil s.done in
       rw all s.written
+
+-- ---- over the layers
+
+-- the numbers of layer k, for which there is room
+pub record LayerFits (e : Layer) (k : ℕ) (new : List ℤ) : Type 0 where
+  pub twenty : k < 20
+  pub low : e.first ≤ 65535 * k
+  pub small : e.count < 65536
+  pub room : 2 * e.first + 2 * e.count ≤ length new
+
+module _ {contents : List ℕ} {es : List Layer} (g : Layered contents es) where
+  coords_by : coords_from (length es) (drop 2 contents) ≡ coords_of contents
+  unfolding coords_of
+  coords_by = ap (λ (n : ℕ). coords_from n (drop 2 contents)) (layered_many g)
+
+  pub coords_first : {old : List ℤ} → length (coords_of contents) ≤ length old → CoordsSo contents (length es) 0 (start es 0) old old
+  unfolding start
+  coords_first {old} h = coords_begun contents (length es) old (omega (arith, ap length coords_by))
+
+  pub coords_last : {k : ℕ} {old new : List ℤ} → length es ≤ k → CoordsSo contents (length es) k (start es k) old new
+      → Filled (coords_of contents) old new
+  coords_last {old = old} {new} h s = subst (λ (l : List ℤ). Filled l old new) coords_by (coords_done s h)
+
+  module _ {k : ℕ} {old new : List ℤ} (h : k < length es) (s : CoordsSo contents (length es) k (start es k) old new) where
+    -- layer k as it is read
+    placed : entry es k ≡ layer_here (start es k) (drop (place_of k (start es k)) contents)
+    unfolding layers_of
+    placed =
+        layer_placed contents (length es) k (g.entries ∙ ap (λ (n : ℕ). layers_from n 0 (drop 2 contents)) (sym (layered_many g))) h
+
+    placed_first : (entry es k).first ≡ start es k
+    placed_first = ap (λ (e : Layer). e.first) placed
+
+    placed_count : (entry es k).count ≡ count_here (drop (place_of k (start es k)) contents)
+    placed_count = ap (λ (e : Layer). e.count) placed
+
+    pub layer_fits : ((i : ℕ) → Fits w8 (get_or contents i 0)) → LayerFits (entry es k) k new
+    layer_fits bytes =
+        let all : Bytes contents = record { each = λ i. omega (arith, bytes i) } in
+        record {
+          twenty = omega (arith, layered_many g, g.layers.twenty);
+          low = omega (arith, placed_first, s.few);
+          small = omega (arith, placed_count, two_of_small (bytes_drop 4 (bytes_drop (place_of k (start es k)) all)));
+          room = omega (arith, coords_room s h placed_count, placed_first);
+        }
+
+    pub layer_more : {p : List ℤ} → (entry es k).count < 65536
+        → Filled (numbers (2 * (entry es k).count) (drop (place_of k (entry es k).first + 6) contents)) (behind (2 * (entry es k).first) new) p
+        → length p ≡ length (behind (2 * (entry es k).first) new)
+        → CoordsSo contents (length es) (k + 1) (start es (k + 1)) old (back (2 * (entry es k).first) new p)
+    unfolding start
+    layer_more {p} small =
+        rw (add-one k)
+        (subst (λ (f : ℕ). Filled (numbers (2 * (entry es k).count) (drop (place_of k f + 6) contents)) (behind (2 * f) new) p
+        → length p ≡ length (behind (2 * f) new)
+        → CoordsSo contents (length es) (suc k) (f + (entry es k).count) old (back (2 * f) new p)) (sym placed_first)
+        (λ w e. rw (sym (add-one k)) (coords_more s h placed_count small w e)))

@@ -1,23 +1,16 @@
 -- What the writers of contents put down: a signed number as its two's complement, its bytes one after another, numbers and layers one
 -- behind the other, and how long all of it is. Assumes nothing.
 use mathlib.Core.Path.{◌≡◌, refl, sym, ap, ap₂, ◌∙◌, subst}
-use mathlib.Core.Bool.{true, false}
 use mathlib.Core.List.{List, [], ◌∷◌, ◌++◌, append_assoc, append-nil}
-use Prim.Native.Nat.{ℕ, zero, suc, ◌+◌, ◌*◌, ◌-◌, ◌/◌, ◌%◌, ◌≤◌, ◌<◌}
+use Prim.Native.Nat.{ℕ, zero, suc, ◌+◌, ◌*◌, ◌-◌, ◌/◌, ◌%◌, ◌^◌, ◌≤◌, ◌<◌}
 use native.Mathlib.Numerals.{add-one}
 use native.Mathlib.Omega.{arith}
-use lib.Dec.{T}
-use lib.IntN.{ℤ, pos, negsuc, nat_abs, ◌+ℤ◌}
-use lib.ListN.{length, get_or, take, drop, set, length-append, take-append-drop}
+use lib.IntN.{ℤ, pos, negsuc}
+use lib.ListN.{length, get_or, take, drop, length-append, take-append-drop}
 use lib.Seq.{take-suc, take_all, length-take-le}
-use lib.Signed.{lt_z, non_neg}
-use mir.Syntax.{w32, w64}
-use mir.Val.{Fits, SFits, to_z, of_z}
+use mir.Syntax.{w32}
+use mir.Val.{SFits, to_z, of_z}
 use mir.ValLaws.{to_z-of_z}
-use borrow.Author.Tests.{ltb-true}
-use Rattle.whole.proofs.Linear.{zsum, znat}
-use Rattle.whole.proofs.TestLaws.{true≢false}
-use Rattle.whole.proofs.Machine.{held, from32}
 use Rattle.whole.specs.Filled.{Filled}
 use Rattle.whole.proofs.Filling.{behind, back, back_long, filled_more}
 use Rattle.blocks.specs.Blocks.{two}
@@ -32,84 +25,35 @@ use Rattle.register.specs.Contents.{complement, four, fours, layer_bytes, layers
 
 -- ---- two's complement
 
--- a number below zero, with 2^32 added
-lifted : (z : ℤ) → SFits w32 z → lt_z z (pos 0) ≡ true → z +ℤ pos 4294967296 ≡ pos (complement z)
-unfolding complement
-lifted (pos n) f e = absurd (omega (arith, ltb-true n 0 e))
-lifted (negsuc n) f e = sum n (omega (arith, f.sfits))
-  where
-    sum : (n : ℕ) → n < 2147483648 → negsuc n +ℤ pos 4294967296 ≡ pos (4294967295 - n)
-    sum n h = simp zsum (simp znat (omega arith))
-
 pub complement_below : (z : ℤ) → SFits w32 z → complement z < 4294967296
 unfolding complement
 complement_below (pos n) f = omega (arith, f.sfits)
 complement_below (negsuc n) f = omega arith
 
--- the code's sum of a number that is read back twice
-module _ (z : ℤ) (f : SFits w32 z) where
-  again : to_z w64 (of_z w64 (to_z w32 (of_z w32 z))) ≡ z
-  again = (held w64 (held w32 (from32 refl f) tt) tt).is
+-- the bits of a word
+bits_complement : (z : ℤ) → of_z w32 z ≡ complement z
+unfolding complement
+bits_complement (pos n) = refl
+bits_complement (negsuc n) = let less : 2 ^ 32 - suc n ≡ 4294967295 - n = omega arith in less
 
-  lifted_back : lt_z (to_z w32 (of_z w32 z)) (pos 0) ≡ true → to_z w64 (of_z w64 (to_z w32 (of_z w32 z))) +ℤ pos 4294967296 ≡ pos (complement z)
-  lifted_back e = ap (λ (y : ℤ). y +ℤ pos 4294967296) again ∙ lifted z f (ap (λ (y : ℤ). lt_z y (pos 0)) (sym (to_z-of_z w32 z f)) ∙ e)
+bytes_of : ℕ → List ℕ
+bytes_of v = v % 256 ∷ v / 256 % 256 ∷ v / 65536 % 256 ∷ v / 16777216 % 256 ∷ []
 
-  small : SFits w64 (pos (complement z))
-  small = record { sfits = omega (arith, complement_below z f) }
+-- .. and its bytes, of a number that is read back
+pub word_bytes : (z : ℤ) → SFits w32 z →
+    let v = of_z w32 (to_z w32 (of_z w32 z)) in
+    v % 256 ∷ v / 256 % 256 ∷ v / 65536 % 256 ∷ v / 16777216 % 256 ∷ [] ≡ four z
+unfolding four bytes_of
+word_bytes z f =
+    let v = complement z in
+    let top : v / 16777216 % 256 ≡ v / 16777216 = omega (arith, complement_below z f) in
+    ap bytes_of (ap (of_z w32) (to_z-of_z w32 z f) ∙ bits_complement z)
+    ∙ ap (λ (t : ℕ). v % 256 ∷ v / 256 % 256 ∷ v / 65536 % 256 ∷ t ∷ []) top
 
-  pub sum_fits : lt_z (to_z w32 (of_z w32 z)) (pos 0) ≡ true → SFits w64 (to_z w64 (of_z w64 (to_z w32 (of_z w32 z))) +ℤ pos 4294967296)
-  sum_fits e = subst (SFits w64) (sym (lifted_back e)) small
-
-  sum_is : lt_z (to_z w32 (of_z w32 z)) (pos 0) ≡ true
-      → to_z w64 (of_z w64 (to_z w64 (of_z w64 (to_z w32 (of_z w32 z))) +ℤ pos 4294967296)) ≡ pos (complement z)
-  sum_is e = to_z-of_z w64 _ (sum_fits e) ∙ lifted_back e
-
-  as_amount : {y : ℤ} → y ≡ pos (complement z) → T (non_neg y) × Fits w64 (nat_abs y)
-  as_amount e = rw e (tt, record { fits = omega (arith, complement_below z f) })
-
-  pub below_amount : lt_z (to_z w32 (of_z w32 z)) (pos 0) ≡ true
-      → T (non_neg (to_z w64 (of_z w64 (to_z w64 (of_z w64 (to_z w32 (of_z w32 z))) +ℤ pos 4294967296))))
-      × Fits w64 (nat_abs (to_z w64 (of_z w64 (to_z w64 (of_z w64 (to_z w32 (of_z w32 z))) +ℤ pos 4294967296))))
-  below_amount e = as_amount (sum_is e)
-
-  pub below_complement : lt_z (to_z w32 (of_z w32 z)) (pos 0) ≡ true
-      → nat_abs (to_z w64 (of_z w64 (to_z w64 (of_z w64 (to_z w32 (of_z w32 z))) +ℤ pos 4294967296))) ≡ complement z
-  below_complement e = ap nat_abs (sum_is e)
-
-  -- not below zero
-  plain : (y : ℤ) → lt_z y (pos 0) ≡ false → y ≡ pos (complement y)
-  unfolding complement
-  plain (pos n) e = refl
-  plain (negsuc n) e = absurd (true≢false e)
-
-  same : lt_z (to_z w32 (of_z w32 z)) (pos 0) ≡ false → to_z w32 (of_z w32 z) ≡ pos (complement z)
-  same e = plain (to_z w32 (of_z w32 z)) e ∙ ap (λ (y : ℤ). pos (complement y)) (to_z-of_z w32 z f)
-
-  pub above_amount : lt_z (to_z w32 (of_z w32 z)) (pos 0) ≡ false → T (non_neg (to_z w32 (of_z w32 z))) × Fits w64 (nat_abs (to_z w32 (of_z w32 z)))
-  above_amount e = as_amount (same e)
-
-  pub above_complement : lt_z (to_z w32 (of_z w32 z)) (pos 0) ≡ false → nat_abs (to_z w32 (of_z w32 z)) ≡ complement z
-  above_complement e = ap nat_abs (same e)
-
--- ---- bytes one after another
-
-short : (n : ℕ) {m : ℕ} → m ≤ n → n < m → ⊥
-short n h k = omega arith
-
-pub two_filled : (l : List ℕ) (v : ℕ) → 2 ≤ length l → Filled (two v) l (set (set l 0 (v % 256)) 1 (v / 256))
+-- those of a number without a sign
+pub two_bytes : (v : ℕ) → v < 65536 → v % 256 ∷ v / 256 % 256 ∷ [] ≡ two v
 unfolding two
-two_filled [] v h = absurd (short 0 h (omega arith))
-two_filled (a ∷ []) v h = absurd (short 1 h (omega arith))
-two_filled (a ∷ b ∷ l) v h = record { filled = refl }
-
-pub four_filled : (l : List ℕ) (z : ℤ) {v : ℕ} → v ≡ complement z → 4 ≤ length l
-    → Filled (four z) l (set (set (set (set l 0 (v % 256)) 1 (v / 256 % 256)) 2 (v / 65536 % 256)) 3 (v / 16777216))
-unfolding four
-four_filled [] z e h = absurd (short 0 h (omega arith))
-four_filled (a ∷ []) z e h = absurd (short 1 h (omega arith))
-four_filled (a ∷ b ∷ []) z e h = absurd (short 2 h (omega arith))
-four_filled (a ∷ b ∷ c ∷ []) z e h = absurd (short 3 h (omega arith))
-four_filled (a ∷ b ∷ c ∷ d ∷ l) z e h = rw e (record { filled = refl })
+two_bytes v h = let high : v / 256 % 256 ≡ v / 256 = omega arith in ap (λ (t : ℕ). v % 256 ∷ t ∷ []) high
 
 -- ---- numbers one behind the other
 
@@ -148,16 +92,15 @@ module _ {l : List ℤ} {k : ℕ} {old new : List ℕ} (s : FoursSo l k old new)
         wrote = subst (λ (r : List ℕ). Filled r old (back (4 * k) new p)) next (filled_more (4 * k) s.wrote done_long f);
       }
 
-  pub fours_done : length l ≤ k → Filled (fours l) old new
-  fours_done h = subst (λ (r : List ℤ). Filled (fours r) old new) (take_all k l h) s.wrote
-
 -- ---- one layer
 
-pub layer_filled : (plane : ℤ) (n : ℕ) (c : List ℤ) {old a p q : List ℕ} → Filled (four plane) old a → Filled (two n) (behind 4 a) p
-    → Filled (fours c) (behind 6 (back 4 a p)) q → Filled (four plane ++ two n ++ fours c) old (back 6 (back 4 a p) q)
-unfolding two
-layer_filled plane n c f g h =
-    filled_more 6 (filled_more 4 f (four_long plane) g) (length-append (four plane) (two n) ∙ ap (λ (k : ℕ). k + 2) (four_long plane)) h
+pub layer_filled : (c : List ℤ) (e : Layer) {t : List ℤ} {old a p q : List ℕ} → t ≡ trace_of c e → Filled (four e.plane) old a
+    → Filled (two e.count) (behind 4 a) p → Filled (fours t) (behind 6 (back 4 a p)) q → Filled (layer_bytes c e) old (back 6 (back 4 a p) q)
+unfolding layer_bytes two
+layer_filled c e {old = old} {a} {p} {q} is f g h =
+    subst (λ (t : List ℤ). Filled (four e.plane ++ two e.count ++ fours t) old (back 6 (back 4 a p) q)) is
+    (filled_more 6 (filled_more 4 f (four_long e.plane) g)
+    (length-append (four e.plane) (two e.count) ∙ ap (λ (k : ℕ). k + 2) (four_long e.plane)) h)
 
 -- ---- all layers
 
@@ -244,11 +187,6 @@ module _ {es : List Layer} {c : List ℤ} {at k : ℕ} {old new : List ℕ} (s :
         ∙ ap length (layers_snoc c es k h);
     wrote = subst (λ (r : List ℕ). Filled r old (back at new p)) (layers_snoc c es k h) (filled_more at s.wrote (sym s.place) f);
   })
-
-  pub layers_done : length es ≤ k → (at ≡ length (layers_bytes c es)) × Filled (layers_bytes c es) old new
-  layers_done h =
-      let e = take_all k es h in
-      (s.place ∙ ap (λ (r : List Layer). length (layers_bytes c r)) e, subst (λ (r : List Layer). Filled (layers_bytes c r) old new) e s.wrote)
 
 -- ---- all contents
 

@@ -1,6 +1,7 @@
--- Reading leaves one outcome for each file and each lent memory: the answer, the stack and every lent element. What the gates stop has not
+-- Reading leaves one outcome for each file and each lent memory: the answer and every lent element. What the gates stop has not
 -- passed them, and a file holds at most one stack with its strips. A refusal leaves the lent memory as it was, and the stack that is held
 -- is refused by 2 to 7 only. Assumes nothing.
+use Rattle.std.specs.Prelude.{Result, Err}
 use mathlib.Core.Path.{◌≡◌, refl, sym, ap}
 use mathlib.Core.Logic.{inl, inr}
 use mathlib.Core.List.{List}
@@ -17,7 +18,6 @@ use Rattle.stack.specs.declared.Layer.{Layer}
 use Rattle.stack.specs.Faults.{LayersRight, stack_gates}
 use Rattle.stack.proofs.Exact.{trace_fault_number}
 use Rattle.register.specs.declared.FileRead.{FileRead}
-use Rattle.register.specs.declared.ReadBack.TheVariants as read_is
 use Rattle.register.specs.Stored.{Stored, LayersIn}
 use Rattle.register.specs.Reading.{Lent, lost, hand_gates, HandedOver, file_gates, ReadAnswer}
 use Rattle.register.specs.Reading as read
@@ -25,7 +25,7 @@ use Rattle.register.proofs.StoredLaws.{stored_many}
 use Rattle.register.proofs.ReadGates.{hand_passes, hand_singles, stored_unique, holds_passes, file_singles}
 
 -- two outcomes allowed for what is handed over coincide
-pub handed_unique : {es : List Layer} {c : List ℤ} {l : List ℕ} {x y z : Lent} {r s : FileRead} → HandedOver es c l x y r
+pub handed_unique : {es : List Layer} {c : List ℤ} {l : List ℕ} {x y z : Lent} {r s : Result FileRead Refusal} → HandedOver es c l x y r
     → HandedOver es c l x z s → (y ≡ z) × (r ≡ s)
 handed_unique {es} {c} {l} {x} (read.HandedOver.refused {r = r} p) (read.HandedOver.refused {r = q} t) =
     (refl, ap lost (one_stop (hand_gates es c l x) hand_singles r q p t))
@@ -35,8 +35,8 @@ handed_unique {es} {c} {l} {x} (read.HandedOver.whole a e s) (read.HandedOver.re
     absurd (stopped_not_passed (hand_gates es c l x) r p (hand_passes a e s))
 handed_unique (read.HandedOver.whole _ _ _) (read.HandedOver.whole _ _ _) = (refl, refl)
 
--- two outcomes allowed for one call of `read` coincide: what the lent memory holds, the stack and the answer
-pub read_unique : {f : List ℕ} {x y z : Lent} {r s : FileRead} → ReadAnswer f x y r → ReadAnswer f x z s → (y ≡ z) × (r ≡ s)
+-- two outcomes allowed for one call of `read` coincide: what the lent memory holds, and the answer
+pub read_unique : {f : List ℕ} {x y z : Lent} {r s : Result FileRead Refusal} → ReadAnswer f x y r → ReadAnswer f x z s → (y ≡ z) × (r ≡ s)
 read_unique {f} (read.ReadAnswer.refused {r = r} p) (read.ReadAnswer.refused {r = q} t) =
     (refl, ap lost (one_stop (file_gates f) file_singles r q p t))
 read_unique {f} (read.ReadAnswer.refused {r = r} p) (read.ReadAnswer.held h o) = absurd (stopped_not_passed (file_gates f) r p (holds_passes h))
@@ -50,13 +50,13 @@ read_unique {f} {x} {y} {z} {r} {s} (read.ReadAnswer.held {es = es} {c = c} {l =
 
 -- ---- refusals
 
-handed_untouched : {es : List Layer} {c : List ℤ} {l : List ℕ} {x y : Lent} {r : FileRead} {q : Refusal} → HandedOver es c l x y r
-    → r.answer ≡ read_is.Refused q → y ≡ x
+handed_untouched : {es : List Layer} {c : List ℤ} {l : List ℕ} {x y : Lent} {r : Result FileRead Refusal} {q : Refusal} → HandedOver es c l x y r
+    → r ≡ Err q → y ≡ x
 handed_untouched (read.HandedOver.refused _) e = refl
-handed_untouched (read.HandedOver.whole _ _ _) e = absurd (let z : ◌≡◌ {A = ℕ} 0 1 = cc in omega arith)
+handed_untouched (read.HandedOver.whole _ _ _) e = absurd cc
 
 -- "Each refusal returns number and place only; the lent memory is untouched."
-pub read_refused_untouched : {f : List ℕ} {x y : Lent} {r : FileRead} {q : Refusal} → ReadAnswer f x y r → r.answer ≡ read_is.Refused q → y ≡ x
+pub read_refused_untouched : {f : List ℕ} {x y : Lent} {r : Result FileRead Refusal} {q : Refusal} → ReadAnswer f x y r → r ≡ Err q → y ≡ x
 read_refused_untouched (read.ReadAnswer.refused _) e = refl
 read_refused_untouched (read.ReadAnswer.held h o) e = handed_untouched o e
 

@@ -4,6 +4,8 @@
 -- (`written_is_read`). What is read with success is what the file was made of (`read_is_written`). So a file is accepted exactly when it
 -- is what `write` makes of some accepted stack with strips (`accepted_exactly`). Over the calls: `write_then_read` and `read_then_write`.
 -- Assumes nothing.
+use Rattle.std.specs.Prelude.{Result, Ok}
+use Rattle.fault.specs.declared.Refusal.{Refusal}
 use mathlib.Core.Path.{◌≡◌, refl, sym, ap, ◌∙◌, subst}
 use mathlib.Core.Bool.{Bool, true, false}
 use mathlib.Core.Logic.{◌↔◌}
@@ -21,21 +23,16 @@ use Rattle.stack.specs.declared.Layer.{Layer}
 use Rattle.stack.specs.Entries.{entry, trace_of, stop, start}
 use Rattle.stack.specs.Faults.{AcceptedStack}
 use Rattle.stack.specs.Strips.{StripsRight}
-use Rattle.stack.specs.Laid.{laid}
-use Rattle.stack.proofs.Laying.{laid_of}
 use Rattle.stack.proofs.StackLaws.{accepted_first, accepted_end, accepted_inside, accepted_count, accepted_plane}
 use Rattle.blocks.specs.Blocks.{blocks_for, contents_of}
 use Rattle.blocks.specs.Faults.{Sound}
 use Rattle.blocks.proofs.RoundTrip.{sealed_is_sound, seal_then_open, open_then_seal_less}
 use Rattle.register.specs.declared.FileRead.{FileRead}
-use Rattle.register.specs.declared.ReadBack.TheVariants as read_is
 use Rattle.register.specs.Contents.{contents, contents_long, register_file}
 use Rattle.register.specs.Stored.{InWord, Stored}
 use Rattle.register.specs.Reading.{Lent, lent, EnoughFor, filled, found, in_file, Holds, HandedOver, ReadAnswer}
 use Rattle.register.specs.Reading as read
 use Rattle.register.specs.Accepted.{FileOf, IsFile, IsRead, WrittenFor}
-use Rattle.register.specs.declared.Written.{Written}
-use Rattle.register.specs.declared.Written.TheVariants as written_is
 use Rattle.register.specs.Writing.{file_long, WriteAnswer}
 use Rattle.register.specs.Writing as write
 use Rattle.register.proofs.WriteExact.{write_unique}
@@ -135,21 +132,20 @@ module _ {es : List Layer} {c : List ℤ} (a : AcceptedStack es c) where
         record { sound = subst (Sound f) is file_sound; layers = layers_held held a.layers; stored = held }
 
     -- round trip one: what is written and read comes back, every number
-    pub written_is_read : {x : Lent} → EnoughFor es c l x → ReadAnswer (register_file es c l) x (filled c l x) (found es c l)
+    pub written_is_read : {x : Lent} → EnoughFor es c l x → ReadAnswer (register_file es c l) x (filled es c l x) (found es c l)
     written_is_read e = read.ReadAnswer.held file_holds (read.HandedOver.whole a e r)
 
     -- and nothing else can come back
-    pub nothing_else_is_read : {x y : Lent} {s : FileRead} → EnoughFor es c l x → ReadAnswer (register_file es c l) x y s
-        → (y ≡ filled c l x) × (s ≡ found es c l)
+    pub nothing_else_is_read : {x y : Lent} {s : Result FileRead Refusal} → EnoughFor es c l x → ReadAnswer (register_file es c l) x y s
+        → (y ≡ filled es c l x) × (s ≡ found es c l)
     nothing_else_is_read e p = read_unique p (written_is_read e)
 
 -- ---- what was read
 
-handed_written : {f : List ℕ} {es : List Layer} {c : List ℤ} {l : List ℕ} {x y : Lent} {r : FileRead} {points n : ℕ} → Holds f es c l
-    → HandedOver es c l x y r → r.answer ≡ read_is.Whole points n → WrittenFor f x y r
+handed_written : {f : List ℕ} {es : List Layer} {c : List ℤ} {l : List ℕ} {x y : Lent} {r : FileRead} → Holds f es c l
+    → HandedOver es c l x y (Ok r) → WrittenFor f x y (Ok r)
 unfolding register_file
-handed_written h (read.HandedOver.refused x) e = absurd (let z : ◌≡◌ {A = ℕ} 0 1 = cc in omega arith)
-handed_written {es = es} {c} {l} h (read.HandedOver.whole a i s) e = record {
+handed_written {es = es} {c} {l} h (read.HandedOver.whole a i s) = record {
   es = es;
   c = c;
   l = l;
@@ -164,68 +160,55 @@ handed_written {es = es} {c} {l} h (read.HandedOver.whole a i s) e = record {
 }
 
 -- round trip two: a file that is read, and written again from what was read, comes back byte for byte
-pub read_is_written : {f : List ℕ} {x y : Lent} {r : FileRead} {points n : ℕ} → ReadAnswer f x y r → r.answer ≡ read_is.Whole points n
-    → WrittenFor f x y r
-read_is_written (read.ReadAnswer.refused x) e = absurd (let z : ◌≡◌ {A = ℕ} 0 1 = cc in omega arith)
-read_is_written (read.ReadAnswer.held h o) e = handed_written h o e
+pub read_is_written : {f : List ℕ} {x y : Lent} {r : FileRead} → ReadAnswer f x y (Ok r) → WrittenFor f x y (Ok r)
+read_is_written (read.ReadAnswer.held h o) = handed_written h o
 
 -- ---- over the calls
 
 -- what a call of `write` leaves at the front of its slice, handed to `read`, comes back, every number
-pub write_then_read : {es : List Layer} {c : List ℤ} {l out out' : List ℕ} {n : ℕ} {x y : Lent} {s : FileRead}
-    → WriteAnswer es c l out out' (written_is.Bytes n) → EnoughFor es c l x → ReadAnswer (take n out') x y s
-    → (y ≡ filled c l x) × (s ≡ found es c l)
+pub write_then_read : {es : List Layer} {c : List ℤ} {l out out' : List ℕ} {n : ℕ} {x y : Lent} {s : Result FileRead Refusal}
+    → WriteAnswer es c l out out' (Ok n) → EnoughFor es c l x → ReadAnswer (take n out') x y s
+    → (y ≡ filled es c l x) × (s ≡ found es c l)
 write_then_read {es} {c} {l} {out} {x = x} {y} {s} (write.written a h r) e p =
     let front = take_at (register_file es c l) (drop (file_long es c) out) (file_long es c) (file_long_lem a r) in
     nothing_else_is_read a r e (subst (λ (f : List ℕ). ReadAnswer f x y s) front p)
 
 -- what a call of `write` leaves for the stack that a file was made of is that file
-pub written_again : {f : List ℕ} {es : List Layer} {c : List ℤ} {l out out' : List ℕ} {w : Written} → FileOf f es c l → length f ≤ length out
-    → WriteAnswer es c l out out' w → (w ≡ written_is.Bytes (length f)) × (take (length f) out' ≡ f)
+pub written_again : {f : List ℕ} {es : List Layer} {c : List ℤ} {l out out' : List ℕ} {w : Result ℕ Refusal} → FileOf f es c l → length f ≤ length out
+    → WriteAnswer es c l out out' w → (w ≡ Ok (length f)) × (take (length f) out' ≡ f)
 written_again {f} {es} {c} {l} {out} o h q =
     let long : length f ≡ file_long es c = ap length (sym o.same) ∙ file_long_lem o.stack o.strips in
     let again = write_unique q (write.written o.stack (omega arith) o.strips) in (
-      again.1 ∙ ap written_is.Bytes (sym long),
+      again.1 ∙ ap Ok (sym long),
       ap (take (length f)) again.0
           ∙ take_at (register_file es c l) (drop (file_long es c) out) (length f) (ap length o.same)
           ∙ o.same,
     )
 
 -- what a call of `read` gives, handed to `write`, is the file byte for byte
-pub read_then_write : {f : List ℕ} {x y : Lent} {r : FileRead} {points n : ℕ} {out out' : List ℕ} {w : Written} → ReadAnswer f x y r
-    → r.answer ≡ read_is.Whole points n → length f ≤ length out
-    → WriteAnswer (laid r.stack) (take (2 * points) y.coords) (take n y.strips) out out' w
-    → (w ≡ written_is.Bytes (length f)) × (take (length f) out' ≡ f)
-read_then_write {f} {x} {y} {r} {points} {n} {out} {out'} {w} p e h q = go (read_is_written p e) e q
+pub read_then_write : {f : List ℕ} {x y : Lent} {r : FileRead} {out out' : List ℕ} {w : Result ℕ Refusal} → ReadAnswer f x y (Ok r)
+    → length f ≤ length out
+    → WriteAnswer (take r.layers y.entries) (take (2 * r.points) y.coords) (take r.steps y.strips) out out' w
+    → (w ≡ Ok (length f)) × (take (length f) out' ≡ f)
+read_then_write {f} {x} {y} {r} {out} {out'} {w} p h q = go (read_is_written p)
   where
-    whole_points : {a b i j : ℕ} → read_is.Whole a b ≡ read_is.Whole i j → i ≡ a
-    whole_points e = cc
+    is_found : {a b : FileRead} → ◌≡◌ {A = Result FileRead Refusal} (Ok a) (Ok b) → a ≡ b
+    is_found e = cc
 
-    whole_steps : {a b i j : ℕ} → read_is.Whole a b ≡ read_is.Whole i j → j ≡ b
-    whole_steps e = cc
-
-    go : WrittenFor f x y r → r.answer ≡ read_is.Whole points n
-        → WriteAnswer (laid r.stack) (take (2 * points) y.coords) (take n y.strips) out out' w
-        → (w ≡ written_is.Bytes (length f)) × (take (length f) out' ≡ f)
-    go t e q =
-        let o = t.file in
-        let whole = ap (λ (r : FileRead). r.answer) (sym t.given) ∙ e in
-        let even : 2 * points ≡ length t.c = omega (arith, whole_points whole, o.stack.spanned.even) in
-        let same : WriteAnswer t.es t.c t.l out out' w =
-        rw (sym (layers t), sym (coords t even), sym (steps t (whole_steps whole))) q in
-        written_again o h same
-      where
-        layers : (t : WrittenFor f x y r) → laid r.stack ≡ t.es
-        layers t = ap (λ (r : FileRead). laid r.stack) t.given ∙ laid_of t.es t.file.stack.layers.twenty
-
-        coords : (t : WrittenFor f x y r) → 2 * points ≡ length t.c → take (2 * points) y.coords ≡ t.c
-        coords t many =
-            ap (λ (y : Lent). take (2 * points) y.coords) t.fronts
-            ∙ take_at t.c (drop (length t.c) x.coords) (2 * points) (sym many)
-
-        steps : (t : WrittenFor f x y r) → n ≡ length t.l → take n y.strips ≡ t.l
-        steps t many =
-            ap (λ (y : Lent). take n y.strips) t.fronts ∙ take_at t.l (drop (length t.l) x.strips) n (sym many)
+    go : WrittenFor f x y (Ok r) → (w ≡ Ok (length f)) × (take (length f) out' ≡ f)
+    go t =
+        let given = is_found t.given in
+        let layers : r.layers ≡ length t.es = ap (λ (r : FileRead). r.layers) given in
+        let points : r.points ≡ length t.c / 2 = ap (λ (r : FileRead). r.points) given in
+        let steps : r.steps ≡ length t.l = ap (λ (r : FileRead). r.steps) given in
+        let even : 2 * r.points ≡ length t.c = omega (arith, t.file.stack.spanned.even) in
+        let entries : take r.layers y.entries ≡ t.es =
+        ap (λ (y : Lent). take r.layers y.entries) t.fronts ∙ take_at t.es (drop (length t.es) x.entries) r.layers (sym layers) in
+        let coords : take (2 * r.points) y.coords ≡ t.c =
+        ap (λ (y : Lent). take (2 * r.points) y.coords) t.fronts ∙ take_at t.c (drop (length t.c) x.coords) (2 * r.points) (sym even) in
+        let strips : take r.steps y.strips ≡ t.l =
+        ap (λ (y : Lent). take r.steps y.strips) t.fronts ∙ take_at t.l (drop (length t.l) x.strips) r.steps (sym steps) in
+        written_again t.file h (rw (sym entries, sym coords, sym strips) q)
 
 -- ---- which files are accepted
 
@@ -234,23 +217,20 @@ accepted_exactly f = (to, of)
   where
     to : IsRead f → IsFile f
     to r =
-        let w = read_is_written r.answer r.whole in
+        let w = read_is_written r.answer in
         record { es = w.es; c = w.c; l = w.l; file = w.file }
 
     of : IsFile f → IsRead f
     of w = record {
       before = just;
-      after = filled w.c w.l just;
-      points = length w.c / 2;
-      n = length w.l;
-      given = found w.es w.c w.l;
-      answer = subst (λ (g : List ℕ). ReadAnswer g just (filled w.c w.l just) (found w.es w.c w.l)) w.file.same
+      after = filled w.es w.c w.l just;
+      given = record { layers = length w.es; points = length w.c / 2; steps = length w.l };
+      answer = subst (λ (g : List ℕ). ReadAnswer g just (filled w.es w.c w.l just) (found w.es w.c w.l)) w.file.same
           (written_is_read w.file.stack w.file.strips enough);
-      whole = refl;
     }
       where
         just : Lent
-        just = lent (length w.es) w.c w.l
+        just = lent w.es w.c w.l
 
         enough : EnoughFor w.es w.c w.l just
         enough = record { for_entries = omega arith; for_coords = omega arith; for_strips = omega arith }

@@ -1,15 +1,13 @@
 -- Inner: what the steps of reading hand on to each other. No public contract cites this file; `ContentWrong` is 01's clauses, to which
 -- CONTENT is held by a theorem (proofs/Content.antt).
-use Rattle.std.specs.Prelude.{◌≡◌, List, [], ℕ, ◌+◌, ◌*◌, ◌-◌, ◌/◌, ◌≤◌, ◌<◌, ℤ, length, take, drop, replicate}
+use Rattle.std.specs.Prelude.{◌≡◌, List, ℕ, ◌+◌, ◌*◌, ◌-◌, ◌/◌, ◌≤◌, ◌<◌, length, drop, replicate, Result, Ok, Err}
 use Rattle.fault.specs.declared.Refusal.{Refusal}
 use Rattle.fault.specs.Gates.{Stopped}
-use Rattle.stack.specs.declared.Stack.{Stack}
+use Rattle.stack.specs.declared.Layer.{Layer}
 use Rattle.stack.specs.Entries.{steps}
-use Rattle.stack.specs.Laid.{stack_of}
 use Rattle.blocks.specs.Faults.{Sound}
 use Rattle.register.specs.declared.FileRead.{FileRead}
-use Rattle.register.specs.declared.form_one.Decoded.{Decoded}
-use Rattle.register.specs.declared.form_one.Content.TheVariants.{Right, Wrong}
+use Rattle.register.specs.declared.form_one.Held.{Held}
 use Rattle.register.specs.declared.judging.Extent.{Extent}
 use Rattle.register.specs.Stored.{LayersIn}
 use Rattle.register.specs.Decoding.{layers_of, coords_of, strips_of, steps_at, StoredHere}
@@ -31,10 +29,10 @@ pub data ContentWrong (k : List ℕ) : Type 0 where
   fewer : contents_end k + 508 ≤ length k → ContentWrong k
   filler : (drop (contents_end k) k ≡ replicate (length k - contents_end k) 0 → ⊥) → ContentWrong k
 
--- the layers of the contents k, by value
-pub record Layered (k : List ℕ) (st : Stack) : Type 0 where
+-- the layers of the contents k
+pub record Layered (k : List ℕ) (es : List Layer) : Type 0 where
   pub layers : LayersIn k
-  pub stack : st ≡ stack_of (layers_of k)
+  pub entries : es ≡ layers_of k
 
 -- how far the contents k reach by the counts of their layers
 pub record Reaches (k : List ℕ) (x : Extent) : Type 0 where
@@ -43,18 +41,12 @@ pub record Reaches (k : List ℕ) (x : Extent) : Type 0 where
   pub end : x.end ≡ contents_end k
   pub small : x.end ≤ 40000000
 
--- what decoding the contents k leaves in the coordinates c and the steps l: LAYERS or CONTENT; or what they hold, each at the front
-pub data Decodes (k : List ℕ) (c : List ℤ) (l : List ℕ) : Decoded → Type 0 where
-  wrong : {r : Refusal} → Stopped (content_gates k) r
-      → Decodes k c l (record { stack = stack_of []; points = 0; steps = 0; content = Wrong r })
-  right : LayersIn k → StoredHere k → take (length (coords_of k)) c ≡ coords_of k → take (length (strips_of k)) l ≡ strips_of k
-      → Decodes k c l (record {
-        stack = stack_of (layers_of k);
-        points = length (coords_of k) / 2;
-        steps = length (strips_of k);
-        content = Right;
-      })
+-- what decoding the contents k answers: LAYERS or CONTENT; or what they hold
+pub data Decodes (k : List ℕ) : Result Held Refusal → Type 0 where
+  wrong : {r : Refusal} → Stopped (content_gates k) r → Decodes k (Err r)
+  right : {h : Held} → LayersIn k → StoredHere k → h.layers.now ≡ layers_of k → h.coords.now ≡ coords_of k → h.strips.now ≡ strips_of k
+      → Decodes k (Ok h)
 
 -- the answer for every sound file with the contents k
-pub record ReadFrom (k : List ℕ) (x y : Lent) (r : FileRead) : Type 0 where
+pub record ReadFrom (k : List ℕ) (x y : Lent) (r : Result FileRead Refusal) : Type 0 where
   pub answer : (f : List ℕ) → Sound f (length f / 512) → in_file f ≡ k → ReadAnswer f x y r

@@ -4,6 +4,5 @@ pub mod Stored
 pub mod Writing
 pub mod Reading
 pub mod Accepted
-pub mod Status
 pub mod Decoding
 pub mod Answering

@@ -1,14 +1,19 @@
 // Numbers and layers read from contents. A byte past the end is 0, so no count leads out of bounds.
-ghost use Rattle.std.specs.Prelude.{◌≡◌, ◌+◌, ◌*◌, ◌≤◌, ◌<◌, get_or, drop};
-ghost use Rattle.register.specs.Decoding.{signed, four_of, two_of, number, layer_here, place_of};
+ghost use Rattle.std.specs.Prelude.{◌≡◌, ℕ, ◌^◌, ◌+◌, ◌*◌, ◌≤◌, ◌<◌, get_or, drop};
+ghost use Rattle.register.specs.Decoding.{two_of, number, layer_here, place_of};
 
 use stack::Layer;
 
-// Byte `k`, and 0 past the end.
-fn byte_at(list: &[u8], k: usize) -> usize
-    ensures { (result ≡ get_or list.now k 0) × (result < 256) }
+// `N` bytes, from `at` on. (As `array::from_fn`, what the closure answers is left open.)
+fn bytes_at<const N: usize>(list: &[u8], at: usize) -> [u8; N]
+    requires { at + N < 2 ^ 64 }
+    ensures { (k : ℕ) → k < N → get_or result k 0 ≡ get_or list.now (at + k) 0 }
 {
-    if k < list.len() { list[k] as usize } else { 0 }
+    let mut bytes = [0; N];
+    for k in 0..N {
+        bytes[k] = list.get(at + k).copied().unwrap_or(0);
+    }
+    bytes
 }
 
 // Two bytes, low first.
@@ -16,35 +21,15 @@ pub(crate) fn two_at(list: &[u8], at: usize) -> usize
     requires { at ≤ 16777216 }
     ensures { (result ≡ two_of (drop at list.now)) × (result < 65536) }
 {
-    byte_at(list, at) + 256 * byte_at(list, at + 1)
+    usize::from(u16::from_le_bytes(bytes_at(list, at)))
 }
 
-// Four bytes, low first.
-fn four_at(list: &[u8], at: usize) -> usize
-    requires { at ≤ 16777212 }
-    ensures { (result ≡ four_of (drop at list.now)) × (result < 4294967296) }
-{
-    two_at(list, at) + 65_536 * two_at(list, at + 2)
-}
-
-// Two's complement: from 2^31 on a number is below zero.
-fn with_sign(v: usize) -> i32
-    requires { v < 4294967296 }
-    ensures { result ≡ signed v }
-{
-    if v < 2_147_483_648 {
-        return v as i32;
-    }
-    let below = v as i64 - 4_294_967_296;
-    below as i32
-}
-
-// A coordinate or a plane.
+// A coordinate or a plane: four bytes, low first.
 pub(crate) fn number_at(list: &[u8], at: usize) -> i32
     requires { at ≤ 16777212 }
     ensures { result ≡ number (drop at list.now) }
 {
-    with_sign(four_at(list, at))
+    i32::from_le_bytes(bytes_at(list, at))
 }
 
 // Layer `k`, before which `first` points stand.

@@ -1,61 +1,51 @@
-// Numbers and bytes, at the front of the slice that is lent; the rest of it stays.
+// Layers, numbers and bytes, at the front of the slice that is lent; the rest of it stays.
 ghost use Rattle.std.specs.Prelude.{◌+◌, ◌*◌, ◌≤◌, length, drop};
-ghost use Rattle.register.specs.Decoding.{numbers, coords_from};
+ghost use Rattle.register.specs.Decoding.{numbers, layers_from, coords_of};
+ghost use Rattle.register.specs.Answering.{Layered};
 ghost use Rattle.whole.specs.Filled.{Filled};
 
 use crate::decoding::{layer_here, number_at};
+use stack::Layer;
 
 // `many` numbers, from `at` on.
 fn put_numbers(contents: &[u8], at: usize, many: usize, out: &mut [i32])
     requires { (at + 4 * many ≤ 16777216) × (many ≤ length out.old) }
     ensures { Filled (numbers many (drop at contents.now)) out.old out.new }
 {
-    let mut k = 0;
-    while k < many {
-        let number = number_at(contents, at + 4 * k);
-        out[k] = number;
-        k += 1;
+    for k in 0..many {
+        out[k] = number_at(contents, at + 4 * k);
     }
 }
 
-// The coordinates of all layers, each layer's behind those of the layer before.
-pub(crate) fn put_coords(contents: &[u8], layers: usize, out: &mut [i32])
-    requires { (layers ≤ 20) × (length (coords_from layers (drop 2 contents.now)) ≤ length out.old) }
-    ensures { Filled (coords_from layers (drop 2 contents.now)) out.old out.new }
+// The first `many` layers. Each stands behind the points of those before it, so its place follows from their number.
+pub(crate) fn put_entries(contents: &[u8], many: usize, out: &mut [Layer])
+    requires { (many ≤ 20) × (many ≤ length out.old) }
+    ensures { Filled (layers_from many 0 (drop 2 contents.now)) out.old out.new }
 {
     let mut first = 0;
-    let mut k = 0;
-    while k < layers {
+    for k in 0..many {
         let layer = layer_here(contents, k, first);
-        let at = 2 + 6 * k + 8 * first;
-        let to = 2 * first;
-        put_numbers(contents, at + 6, 2 * layer.count, &mut out[to..]);
+        out[k] = layer;
         first += layer.count;
-        k += 1;
     }
 }
 
-// Numbers as they stand.
-pub(crate) fn copy_numbers(numbers: &[i32], out: &mut [i32])
-    requires { length numbers.now ≤ length out.old }
-    ensures { Filled numbers.now out.old out.new }
+// The coordinates of all layers, each layer's behind those of the layers before.
+pub(crate) fn put_coords(contents: &[u8], layers: &[Layer], out: &mut [i32])
+    requires { Layered contents.now layers.now × (length (coords_of contents.now) ≤ length out.old) }
+    ensures { Filled (coords_of contents.now) out.old out.new }
 {
-    let mut k = 0;
-    while k < numbers.len() {
-        let number = numbers[k];
-        out[k] = number;
-        k += 1;
+    for (k, layer) in layers.iter().enumerate() {
+        let at = 2 + 6 * k + 8 * layer.first;
+        let to = 2 * layer.first;
+        put_numbers(contents, at + 6, 2 * layer.count, &mut out[to..]);
     }
 }
 
-// Bytes as they stand.
-pub(crate) fn put_bytes(bytes: &[u8], out: &mut [u8])
-    requires { length bytes.now ≤ length out.old }
-    ensures { Filled bytes.now out.old out.new }
+// A list as it stands.
+pub(crate) fn fill_front<T: Copy>(list: &[T], out: &mut [T])
+    requires { length list.now ≤ length out.old }
+    ensures { Filled list.now out.old out.new }
 {
-    let mut k = 0;
-    while k < bytes.len() {
-        out[k] = bytes[k];
-        k += 1;
-    }
+    out[..list.len()].copy_from_slice(list);
 }

@@ -1,104 +1,61 @@
 // What contents hold, judged and handed over: the stack, ROOM, the strips; and nothing is written before all are judged.
-ghost use Rattle.std.specs.Prelude.{◌≡◌, ◌≤◌, length};
-ghost use Rattle.stack.specs.Laid.{laid, stack_of};
-ghost use Rattle.register.specs.Reading as Reading;
+ghost use Rattle.std.specs.Prelude.{◌≤◌, length};
 ghost use Rattle.register.specs.Reading.{lent, HandedOver};
 ghost use Rattle.register.specs.Answering.{ReadFrom};
 
-use crate::form_one::{Content, decode};
-use crate::fronts::{copy_numbers, put_bytes};
-use crate::{FileRead, ReadBack};
+use crate::FileRead;
+use crate::form_one::{Held, decode};
+use crate::fronts::fill_front;
 use fault::{Fault, Refusal, refuse};
-use stack::{Stack, StackJudgement, StripsJudgement};
+use stack::{Layer, judge_stack, judge_strips};
 
-pub(crate) fn lost(refusal: Refusal) -> FileRead
-    ensures { result ≡ Reading.lost refusal }
-{
-    FileRead {
-        stack: stack::no_layers(0),
-        answer: ReadBack::Refused(refusal),
-    }
-}
-
-// Room for all numbers that the contents of 98 blocks can hold.
-fn no_numbers() -> [i32; 12446]
-    ensures { 12446 ≡ length result }
-{
-    [0i32; 12446]
-}
-
-// And for all steps.
-fn no_steps() -> [u8; 49784]
-    ensures { 49784 ≡ length result }
-{
-    [0u8; 49784]
-}
-
-// Decoded into memory of our own, so that a refusal leaves the lent one as it was.
+// Decoded into memory of our own, so that a refusal leaves the lent one as it was: room for 20 entries, and for all numbers that the
+// contents of 98 blocks can hold.
 pub(crate) fn read_contents(
     contents: &[u8],
-    room: usize,
+    layers: &mut [Layer],
     coords: &mut [i32],
     strips: &mut [u8],
-) -> FileRead
+) -> Result<FileRead, Refusal>
     requires { length contents.now ≤ 49784 }
-    ensures { ReadFrom contents.now (lent room coords.old strips.old)
-        (lent room coords.new strips.new) result }
+    ensures { ReadFrom contents.now (lent layers.old coords.old strips.old)
+        (lent layers.new coords.new strips.new) result }
 {
-    let mut numbers = no_numbers();
-    let mut bytes = no_steps();
-    let decoded = decode(contents, &mut numbers, &mut bytes);
-    let stack = decoded.stack;
-    let end = 2 * decoded.points;
-    let steps = decoded.steps;
-    let content = decoded.content;
-    match content {
-        Content::Right => hand_over(
-            stack,
-            &numbers[..end],
-            &bytes[..steps],
-            room,
-            coords,
-            strips,
-        ),
-        Content::Wrong(refusal) => lost(refusal),
-    }
+    let none = Layer {
+        plane: 0,
+        first: 0,
+        count: 0,
+    };
+    let mut entries = [none; 20];
+    let mut numbers = [0i32; 12_446];
+    let held = decode(contents, &mut entries, &mut numbers)?;
+    hand_over(held, layers, coords, strips)
 }
 
 // Takes a stack with its coordinates and steps, in whatever form they were stored.
 fn hand_over(
-    stack: Stack,
-    numbers: &[i32],
-    bytes: &[u8],
-    room: usize,
+    held: Held,
+    layers: &mut [Layer],
     coords: &mut [i32],
     strips: &mut [u8],
-) -> FileRead
-    requires { stack ≡ stack_of (laid stack) }
-    ensures { HandedOver (laid stack) numbers.now bytes.now
-        (lent room coords.old strips.old) (lent room coords.new strips.new) result }
+) -> Result<FileRead, Refusal>
+    ensures { HandedOver held.entry.layers.now held.entry.coords.now held.entry.strips.now
+        (lent layers.old coords.old strips.old) (lent layers.new coords.new strips.new) result }
 {
-    match stack::judge_stack(stack, numbers) {
-        StackJudgement::Fit {
-            points: _,
-            steps: _,
-        } => {}
-        StackJudgement::Refused(refusal) => return lost(refusal),
+    judge_stack(held.layers, held.coords)?;
+    if layers.len() < held.layers.len()
+        || coords.len() < held.coords.len()
+        || strips.len() < held.strips.len()
+    {
+        return Err(refuse(Fault::Room, 0));
     }
-    if (room < stack.count) | (coords.len() < numbers.len()) | (strips.len() < bytes.len()) {
-        return lost(refuse(Fault::Room, 0));
-    }
-    match stack::judge_strips(stack, bytes) {
-        StripsJudgement::Whole => {}
-        StripsJudgement::Refused(refusal) => return lost(refusal),
-    }
-    copy_numbers(numbers, coords);
-    put_bytes(bytes, strips);
-    FileRead {
-        stack,
-        answer: ReadBack::Whole {
-            points: numbers.len() / 2,
-            steps: bytes.len(),
-        },
-    }
+    judge_strips(held.layers, held.strips)?;
+    fill_front(held.layers, layers);
+    fill_front(held.coords, coords);
+    fill_front(held.strips, strips);
+    Ok(FileRead {
+        layers: held.layers.len(),
+        points: held.coords.len() / 2,
+        steps: held.strips.len(),
+    })
 }

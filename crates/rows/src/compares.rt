@@ -1,62 +1,42 @@
 // The commands that hold what came back against what is in hand, or print it or its sum.
 use crate::desk::Desk;
-use crate::lists::{part, same_bytes, same_layers, same_numbers};
-use crate::pairs::pairs;
-use crate::says::{say, say_if, tell, tell_bytes};
-use crate::sums::fold_bytes;
-use crate::words::Words;
+use crate::lists::cut;
+use crate::says::{say, say_if};
+use crate::sums::Sum;
+use stack::layer_at;
 use std::io;
 use std::io::Write;
 
-// The last of the commands: what has another name is none.
-pub(crate) fn compare(out: &mut impl Write, desk: Desk, words: Words) -> io::Result<()> {
-    let name = words.name;
-    let lent = desk.lent;
-    let mut same = false;
-    match name {
-        // same_stack LAYERS
-        72_568_443_469 => {
-            same = same_layers(desk.entries, desk.stack, 0, words.f);
-        }
-        // same_coords NUMBERS
-        725_682_800_187 => {
-            let numbers = desk.numbers;
-            let coords = desk.coords;
-            same = same_coords(numbers, coords, words.f);
-        }
-        // same_strips STEPS
-        725_684_452_407 => {
-            let strips = desk.strips;
-            same = same_bytes(lent, strips, words.f);
-        }
-        // same_file BYTES
-        7_256_830_353 => {
-            let file = desk.file;
-            same = same_bytes(lent, file, words.f);
-        }
-        // sum N
-        7_451 => tell(out, sum(lent, words.f))?,
-        // pairs M N
-        695_427 => pairs(out, words.e, words.f)?,
-        // print FROM TO
-        712_388 => print(out, lent, words.e, words.f)?,
-        _ => {
-            say(out, b"what? ")?;
-            tell(out, name)?;
-        }
+// `same_coords NUMBERS`, `same_strips STEPS`, `same_file BYTES`: the first so many elements, whether they count or not.
+pub(crate) fn same<T: PartialEq>(
+    out: &mut impl Write,
+    came: &[T],
+    hand: &[T],
+    [n]: [usize; 1],
+) -> io::Result<()> {
+    say_if(out, cut(came, n).0 == cut(hand, n).0, " same")
+}
+
+// `same_stack LAYERS`: the first so many layers. What does not count is a layer of zeros.
+pub(crate) fn same_stack(out: &mut impl Write, desk: &Desk, [n]: [usize; 1]) -> io::Result<()> {
+    let came = desk.entries.as_slice();
+    let hand = desk.stack.as_slice();
+    let so = (0..20)
+        .take(n)
+        .all(|k| layer_at(came, k) == layer_at(hand, k));
+    say_if(out, so, " same")
+}
+
+// `print FROM TO`
+pub(crate) fn print(out: &mut impl Write, desk: &Desk, [from, to]: [usize; 2]) -> io::Result<()> {
+    for byte in cut(cut(&desk.lent, to).0, from).1 {
+        say(out, *byte)?;
     }
-    say_if(out, same, b" same")
+    Ok(())
 }
 
-fn same_coords(numbers: [i32; 10_000], coords: [i32; 10_000], n: usize) -> bool {
-    same_numbers(&numbers, &coords, n)
-}
-
-fn print(out: &mut impl Write, list: [u8; 50_688], from: usize, to: usize) -> io::Result<()> {
-    tell_bytes(out, &list, from, to)
-}
-
-// Of the first `n` bytes.
-fn sum(list: [u8; 50_688], n: usize) -> usize {
-    fold_bytes(0, part(&list, 0, n)) as usize
+// `sum N`
+pub(crate) fn sum(out: &mut impl Write, desk: &Desk, [n]: [usize; 1]) -> io::Result<()> {
+    let Sum(sum) = Sum::default().bytes(cut(&desk.lent, n).0);
+    say(out, sum)
 }

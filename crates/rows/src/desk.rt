@@ -1,179 +1,112 @@
 // What lies on the desk: what the text has set, and what came back from the last call.
-use crate::calls::call;
-use crate::lists::{put, put_run};
-use crate::reads::{files, read, seal};
-use crate::words::{Words, signed};
-use stack::{Layer, Stack, no_layers, with_layer};
-use std::io;
-use std::io::Write;
-use std::num::wrapping_add_usize;
+use crate::lists::Lot;
+use crate::words::signed;
+use stack::Layer;
 
-#[derive(Clone, Copy)]
+#[derive(Drop)]
 pub(crate) struct Desk {
-    // In hand: a stack, coordinates, strips, a file, with how many count of each; and a file that is kept.
-    pub(crate) stack: Stack,
-    pub(crate) coords: [i32; 10_000],
-    pub(crate) many_coords: usize,
-    pub(crate) strips: [u8; 50_688],
-    pub(crate) many_strips: usize,
-    pub(crate) file: [u8; 50_688],
-    pub(crate) many_file: usize,
-    pub(crate) base: [u8; 50_688],
-    pub(crate) many_base: usize,
+    // In hand: a stack, coordinates, strips, a file; and a file that is kept. A stack has 20 layers at most. One entry
+    // more is lent where more are counted, and is not held against another.
+    pub(crate) stack: Lot<Layer, 21>,
+    pub(crate) coords: Lot<i32, 10_000>,
+    pub(crate) strips: Lot<u8, 50_688>,
+    pub(crate) file: Lot<u8, 50_688>,
+    pub(crate) base: Lot<u8, 50_688>,
     // What came back: a stack, coordinates, and strips or a file.
-    pub(crate) entries: Stack,
+    pub(crate) entries: Lot<Layer, 21>,
     pub(crate) numbers: [i32; 10_000],
     pub(crate) lent: [u8; 50_688],
 }
 
-pub(crate) fn clear() -> Desk {
-    let stack = no_layers(0);
-    Desk {
-        stack,
-        coords: [0; 10_000],
-        many_coords: 0,
-        strips: [0; 50_688],
-        many_strips: 0,
-        file: [0; 50_688],
-        many_file: 0,
-        base: [0; 50_688],
-        many_base: 0,
-        entries: stack,
-        numbers: [0; 10_000],
-        lent: [0; 50_688],
+// What lies where no layer was put.
+pub(crate) const NO_LAYER: Layer = Layer {
+    plane: 0,
+    first: 0,
+    count: 0,
+};
+
+// A layer full of the guard.
+pub(crate) const GUARD_LAYER: Layer = Layer {
+    plane: 7,
+    first: 7,
+    count: 7,
+};
+
+impl Desk {
+    pub(crate) fn clear() -> Desk {
+        Desk {
+            stack: Lot::of(NO_LAYER, 0),
+            coords: Lot::of(0, 0),
+            strips: Lot::of(0, 0),
+            file: Lot::of(0, 0),
+            base: Lot::of(0, 0),
+            entries: Lot::of(NO_LAYER, 0),
+            numbers: [0; 10_000],
+            lent: [0; 50_688],
+        }
+    }
+
+    // `layer K PLANE FIRST COUNT LAYERS`. A layer that does not fit changes nothing but the count.
+    pub(crate) fn layer(&mut self, [k, plane, first, count, layers]: [usize; 5]) {
+        let layer = Layer {
+            plane: signed(plane),
+            first,
+            count,
+        };
+        self.stack.put(k, layer);
+        self.stack.many = layers;
+    }
+
+    // `line N X Y DX DY`
+    pub(crate) fn line(&mut self, [n, mut x, mut y, dx, dy]: [usize; 5]) {
+        for _ in 0..n {
+            self.coords.push(signed(x));
+            self.coords.push(signed(y));
+            x = x.wrapping_add(dx);
+            y = y.wrapping_add(dy);
+        }
+    }
+
+    // `coords N`
+    pub(crate) fn coords(&mut self, [n]: [usize; 1]) {
+        self.coords.many = n;
+    }
+
+    // `keep`
+    pub(crate) fn keep(&mut self) {
+        let file = self.file;
+        self.base = file;
+    }
+
+    // `again`
+    pub(crate) fn again(&mut self) {
+        let base = self.base;
+        self.file = base;
+    }
+
+    // `take_stack NUMBERS`
+    pub(crate) fn take_stack(&mut self, [many]: [usize; 1]) {
+        let stack = self.entries;
+        let items = self.numbers;
+        self.stack = stack;
+        self.coords = Lot { items, many };
+    }
+
+    // `take_strips N`, `take_file N`: what the hand has then.
+    pub(crate) fn taken(&self, [many]: [usize; 1]) -> Lot<u8, 50_688> {
+        let items = self.lent;
+        Lot { items, many }
     }
 }
 
-// By the number of its name. No name, and `#`, is nothing.
-pub(crate) fn command(out: &mut impl Write, mut desk: Desk, words: Words) -> io::Result<Desk> {
-    let name = words.name;
-    match name {
-        0 | 243 => {}
-        // layer K PLANE FIRST COUNT LAYERS
-        656_896 => {
-            let stack = layer(desk.stack, words);
-            desk.stack = stack;
-        }
-        // line N X Y DX DY
-        66_373 => {
-            let old = desk.coords;
-            let coords = line(old, desk.many_coords, words);
-            desk.coords = coords;
-            desk.many_coords = wrapping_add_usize(
-                desk.many_coords,
-                wrapping_add_usize(words.b, words.b),
-            );
-        }
-        // coords N
-        5_800_187 => {
-            desk.many_coords = words.f;
-        }
-        // take_stack NUMBERS
-        73_548_443_469 => {
-            let entries = desk.entries;
-            let numbers = desk.numbers;
-            desk.stack = entries;
-            desk.coords = numbers;
-            desk.many_coords = words.f;
-        }
-        _ => return taken(out, desk, words),
+// `strips N`, `file N`
+pub(crate) fn zeros([many]: [usize; 1]) -> Lot<u8, 50_688> {
+    Lot::of(0, many)
+}
+
+// `step AT BYTE`, `byte AT BYTE`
+pub(crate) fn put(list: &mut Lot<u8, 50_688>, [at, byte]: [usize; 2]) {
+    if let Ok(byte) = u8::try_from(byte) {
+        list.put(at, byte);
     }
-    Ok(desk)
-}
-
-fn layer(stack: Stack, words: Words) -> Stack {
-    let layer = Layer {
-        plane: signed(words.c),
-        first: words.d,
-        count: words.e,
-    };
-    let mut with = with_layer(stack, words.b, layer);
-    with.count = words.f;
-    with
-}
-
-fn line(mut coords: [i32; 10_000], at: usize, words: Words) -> [i32; 10_000] {
-    put_run(&mut coords, at, words.b, words.c, words.e);
-    put_run(
-        &mut coords,
-        wrapping_add_usize(at, 1),
-        words.b,
-        words.d,
-        words.f,
-    );
-    coords
-}
-
-// Lists that go from place to place.
-fn taken(out: &mut impl Write, mut desk: Desk, words: Words) -> io::Result<Desk> {
-    let name = words.name;
-    match name {
-        // keep
-        64_894 => {
-            let file = desk.file;
-            desk.base = file;
-            desk.many_base = desk.many_file;
-        }
-        // again
-        550_532 => {
-            let base = desk.base;
-            desk.file = base;
-            desk.many_file = desk.many_base;
-        }
-        // take_strips N
-        735_484_452_407 => {
-            let lent = desk.lent;
-            desk.strips = lent;
-            desk.many_strips = words.f;
-        }
-        // take_file N
-        7_354_830_353 => {
-            let lent = desk.lent;
-            desk.file = lent;
-            desk.many_file = words.f;
-        }
-        _ => return set(out, desk, words),
-    }
-    Ok(desk)
-}
-
-// Bytes that the text sets, and calls.
-fn set(out: &mut impl Write, mut desk: Desk, words: Words) -> io::Result<Desk> {
-    let name = words.name;
-    match name {
-        // step AT BYTE
-        74_394 => {
-            let old = desk.strips;
-            let strips = put(old, words.e, words.f);
-            desk.strips = strips;
-        }
-        // byte AT BYTE
-        58_033 => {
-            let old = desk.file;
-            let file = put(old, words.e, words.f);
-            desk.file = file;
-        }
-        // strips N
-        7_452_407 => {
-            desk.strips = [0; 50_688];
-            desk.many_strips = words.f;
-        }
-        // file N
-        60_353 => {
-            desk.file = [0; 50_688];
-            desk.many_file = words.f;
-        }
-        // read, seal, files
-        71_842 => return read(out, desk, words),
-        72_850 => return Ok(seal(desk)),
-        603_597 => {
-            let file = desk.file;
-            files(out, file, desk.many_file, words)?;
-        }
-        _ => {
-            let lent = call(out, desk, words)?;
-            desk.lent = lent;
-        }
-    }
-    Ok(desk)
 }

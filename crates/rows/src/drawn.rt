@@ -8,28 +8,13 @@ pub(crate) fn another(seed: u64) -> u64 {
 // From -`most` to `most`.
 fn around_zero(n: u64, most: u64) -> i32 {
     let far = most % 1_000;
-    let rest = n % (2 * far + 1);
-    if rest < far {
-        return !((far - rest - 1) as i32);
-    }
-    ((rest - far) % 1_000) as i32
+    (n % (2 * far + 1)) as i32 - far as i32
 }
 
 pub(crate) fn fill(coords: &mut [i32], seed: u64, most: u64) {
     let mut next = seed;
-    for k in 0..coords.len() {
+    for number in coords {
         next = another(next);
-        let number = around_zero(next / 65_536, most);
-        coords[k] = number;
+        *number = around_zero(next / 65_536, most);
     }
-}
-
-// The elements from `from` up to `to`; all, if they are not there.
-pub(crate) fn part(list: &[i32], from: usize, to: usize) -> &[i32] {
-    if to <= list.len() {
-        if from <= to {
-            return &list[from..to];
-        }
-    }
-    list
 }

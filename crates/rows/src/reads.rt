@@ -1,128 +1,134 @@
 // The commands on a file: `read`, `seal`, and `files`, which reads a file with every byte changed to every other value.
-use crate::desk::Desk;
-use crate::lists::{bytes_are, ends_after, lend, lend_numbers, numbers_kept, part};
-use crate::says::{refuse, say, say_if, tell};
-use crate::words::Words;
-use blocks::Sealing;
-use register::{FileRead, ReadBack};
-use stack::Stack;
+use crate::desk::{Desk, GUARD_LAYER, NO_LAYER};
+use crate::lists::{GUARD, Lot, cut, kept, lend};
+use crate::says::{say_if, tell};
+use fault::{Fault, Refusal, refuse};
+use register::FileRead;
+use stack::Layer;
 use std::io;
 use std::io::Write;
-use std::num::{wrapping_add_u8, wrapping_add_usize};
 
-pub(crate) fn seal(mut desk: Desk) -> Desk {
-    let contents = desk.file;
+// `seal`. A block has 512 bytes. The bytes behind the blocks are those of the file that is kept.
+pub(crate) fn seal(desk: &mut Desk) {
     let mut file = desk.base;
-    desk.many_file = sealed(blocks::seal(part(&contents, 0, desk.many_file), &mut file));
+    let blocks = blocks::seal(desk.file.as_slice(), &mut file.items).unwrap_or(0);
+    file.many = blocks.wrapping_mul(512);
     desk.file = file;
-    desk
 }
 
-// 512 bytes a block. (There are at most 98.)
-fn sealed(sealing: Sealing) -> usize {
-    match sealing {
-        Sealing::Blocks(blocks) => { if blocks <= 98 { 512 * blocks } else { 0 } }
-        Sealing::Refused(_) => 0,
-    }
-}
-
-// `read ROOM COORDINATES STEPS`, and what of it is used: `LAYERS NUMBERS STEPS`
-pub(crate) fn read(out: &mut impl Write, mut desk: Desk, words: Words) -> io::Result<Desk> {
-    let file = desk.file;
-    let mut numbers = [7i32; 10_000];
-    let mut lent = [7u8; 50_688];
-    let came = register::read(
-        part(&file, 0, desk.many_file),
-        words.a,
-        lend_numbers(&mut numbers, words.b),
-        lend(&mut lent, words.c),
+// `read ROOM COORDINATES STEPS LAYERS NUMBERS STEPS`: three rooms, and what of each is used.
+pub(crate) fn read<W: Write>(
+    out: &mut W,
+    desk: &mut Desk,
+    [
+        room,
+        coordinates,
+        steps,
+        layers_used,
+        numbers_used,
+        steps_used,
+    ]: [usize; 6],
+) -> io::Result<()> {
+    let mut layers = [GUARD_LAYER; 21];
+    desk.numbers = [i32::from(GUARD); 10_000];
+    desk.lent = [GUARD; 50_688];
+    let answer = register::read(
+        desk.file.as_slice(),
+        lend(&mut layers, room),
+        lend(&mut desk.numbers, coordinates),
+        lend(&mut desk.lent, steps),
     );
-    let stack = came.stack;
-    tell_read(out, came)?;
-    say_if(out, only_used(stack, words, &numbers, &lent), b" kept")?;
-    desk.entries = stack;
-    desk.numbers = numbers;
-    desk.lent = lent;
-    Ok(desk)
-}
-
-// Whether all that was lent is the guard, but for what may be used, and the stack has so many layers and nothing behind them.
-fn only_used(stack: Stack, words: Words, numbers: &[i32], lent: &[u8]) -> bool {
-    ends_after(stack, words.d)
-        & numbers_kept(numbers, words.e)
-        & bytes_are(lent, words.f, lent.len(), 7)
-}
-
-fn tell_read(out: &mut impl Write, came: FileRead) -> io::Result<()> {
-    let stack = came.stack;
-    let answer = came.answer;
-    match answer {
-        ReadBack::Whole { points, steps } => {
-            tell(out, stack.count)?;
-            tell(out, points)?;
-            tell(out, steps)
-        }
-        ReadBack::Refused(refusal) => refuse(out, refusal),
+    let used = [layers_used, numbers_used, steps_used];
+    let many = layers_of(answer);
+    let so = only_used(many, &layers, &desk.numbers, &desk.lent, used);
+    desk.entries = Lot::of(NO_LAYER, 0);
+    for layer in cut(&layers, many).0 {
+        desk.entries.push(*layer);
     }
+    tell(out, answer, |out: &mut W, read| {
+        write!(out, " {} {} {}", read.layers, read.points, read.steps)
+    })?;
+    say_if(out, so, " kept")
 }
 
-// `files`, and the numbers of `read`, of which COORDINATES and STEPS are always 12 and 6.
-//
-// Three counts in one number, below a million each: how many files were read, how many of them were refused with CHECK at block 0, in
-// millions, and how often all lent memory was kept, in millions of millions.
+// How many layers came: none, if the file was refused.
+fn layers_of(answer: Result<FileRead, Refusal>) -> usize {
+    answer.map_or(0, |read| read.layers)
+}
+
+// Whether so many layers came as may be used, and all that was lent is the guard, but for what may be used at the fronts.
+fn only_used(
+    many: usize,
+    layers: &[Layer],
+    numbers: &[i32],
+    steps: &[u8],
+    [layers_used, numbers_used, steps_used]: [usize; 3],
+) -> bool {
+    many == layers_used
+        && kept(layers, layers_used, GUARD_LAYER)
+        && kept(numbers, numbers_used, i32::from(GUARD))
+        && kept(steps, steps_used, GUARD)
+}
+
+// How many files were read, how many of them were refused with CHECK at block 0, and how often all lent memory was kept.
+#[derive(Clone, Copy, Default)]
+struct Counts {
+    read: usize,
+    refused: usize,
+    kept: usize,
+}
+
+// `files`, and the numbers of `read`, of which COORDINATES and STEPS are always 12 and 6. The file has one block.
 pub(crate) fn files(
     out: &mut impl Write,
-    mut file: [u8; 50_688],
-    many: usize,
-    words: Words,
+    desk: &Desk,
+    [room, _, _, layers_used, numbers_used, steps_used]: [usize; 6],
 ) -> io::Result<()> {
-    let counts = each(lend(&mut file, many), words);
-    tell(out, counts % 1_000_000)?;
-    say(out, b", refused 15 0")?;
-    tell(out, counts / 1_000_000 % 1_000_000)?;
-    say(out, b", kept")?;
-    tell(out, counts / 1_000_000_000_000)
-}
-
-// 256 values at each of 512 places, the last of them the right one.
-fn each(file: &mut [u8], words: Words) -> usize {
-    let mut counts = 0;
-    for k in 0..131_072 {
-        raise(file, k / 256);
-        if k % 256 != 255 {
-            counts = wrapping_add_usize(counts, tried(file, words));
-        }
+    let mut counts = Counts::default();
+    let mut file = desk.file;
+    let used = [layers_used, numbers_used, steps_used];
+    for at in 0..512 {
+        counts.other_values(&mut file, at, room, used);
     }
-    counts
+    write!(
+        out,
+        " {}, refused 15 0 {}, kept {}",
+        counts.read, counts.refused, counts.kept
+    )
 }
 
-// The next value of a byte, if it is there.
+impl Counts {
+    // The file with one byte changed to each other value. Its values go round, so that the byte ends as it was.
+    fn other_values(
+        &mut self,
+        file: &mut Lot<u8, 50_688>,
+        at: usize,
+        room: usize,
+        used: [usize; 3],
+    ) {
+        for _ in 0..255 {
+            raise(&mut file.items, at);
+            self.tried(file.as_slice(), room, used);
+        }
+        raise(&mut file.items, at);
+    }
+
+    fn tried(&mut self, file: &[u8], room: usize, used: [usize; 3]) {
+        let mut layers = [GUARD_LAYER; 21];
+        let mut numbers = [i32::from(GUARD); 12];
+        let mut steps = [GUARD; 6];
+        let answer = register::read(file, lend(&mut layers, room), &mut numbers, &mut steps);
+        let so = only_used(layers_of(answer), &layers, &numbers, &steps, used);
+        self.read = self.read.saturating_add(1);
+        self.refused = self
+            .refused
+            .saturating_add(usize::from(answer == Err(refuse(Fault::Check, 0))));
+        self.kept = self.kept.saturating_add(usize::from(so));
+    }
+}
+
 fn raise(file: &mut [u8], at: usize) {
-    if at < file.len() {
-        file[at] = wrapping_add_u8(file[at], 1);
+    if let Some(byte) = file.get_mut(at) {
+        *byte = byte.wrapping_add(1);
     }
-}
-
-fn tried(file: &[u8], words: Words) -> usize {
-    let mut numbers = [7i32; 12];
-    let mut steps = [7u8; 6];
-    let came = register::read(file, words.a, &mut numbers, &mut steps);
-    let stack = came.stack;
-    let answer = came.answer;
-    counted(answer, only_used(stack, words, &numbers, &steps))
-}
-
-// What one file adds to the counts.
-fn counted(answer: ReadBack, kept: bool) -> usize {
-    let mut counts = 1;
-    if kept {
-        counts = 1_000_000_000_001;
-    }
-    if let ReadBack::Refused(refusal) = answer {
-        let fault = refusal.fault;
-        if (fault::number(fault) == 15) & (refusal.place == 0) {
-            return wrapping_add_usize(counts, 1_000_000);
-        }
-    }
-    counts
 }

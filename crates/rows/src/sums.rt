@@ -1,36 +1,32 @@
 // Numbers and bytes folded into a sum: each next number is added to 1,000,003 times the sum, of which the remainder by a prime is kept.
 use fault::Refusal;
 
-pub(crate) fn fold(sum: u64, n: u64) -> u64 {
-    ((sum % 1_000_000_000_039) * 1_000_003 + n % 1_000_000_000_039) % 1_000_000_000_039
-}
+const PRIME: u64 = 1_000_000_000_039;
 
-// A number above zero without its sign; else 0.
-fn unsigned(v: i64) -> u64 {
-    if 0 < v { v as u64 } else { 0 }
-}
+#[derive(Clone, Copy, Default)]
+pub(crate) struct Sum(pub(crate) u64);
 
-// A number below zero is a 1 and what the opposites of its bits say.
-pub(crate) fn fold_signed(sum: u64, v: i64) -> u64 {
-    if v < 0 {
-        return fold(fold(sum, 1), unsigned(!v));
+impl Sum {
+    pub(crate) fn number(self, n: u64) -> Sum {
+        Sum(((self.0 % PRIME) * 1_000_003 + n % PRIME) % PRIME)
     }
-    fold(sum, unsigned(v))
-}
 
-pub(crate) fn fold_refusal(sum: u64, refusal: Refusal) -> u64 {
-    let fault = refusal.fault;
-    fold(fold(sum, fault::number(fault) as u64), refusal.place as u64)
-}
-
-fn wide_byte(byte: u8) -> u64 {
-    byte as u64
-}
-
-pub(crate) fn fold_bytes(sum: u64, list: &[u8]) -> u64 {
-    let mut all = sum;
-    for k in 0..list.len() {
-        all = fold(all, wide_byte(list[k]));
+    // A number below zero is a 1 and what the opposites of its bits say.
+    pub(crate) fn signed(self, v: i64) -> Sum {
+        if v < 0 {
+            self.number(1).number((!v).cast_unsigned())
+        } else {
+            self.number(v.cast_unsigned())
+        }
     }
-    all
+
+    pub(crate) fn refusal(self, refusal: Refusal) -> Sum {
+        self.number(u64::from(u8::from(refusal.fault)))
+            .number(refusal.place as u64)
+    }
+
+    pub(crate) fn bytes(self, list: &[u8]) -> Sum {
+        list.iter()
+            .fold(self, |sum, byte| sum.number(u64::from(*byte)))
+    }
 }

@@ -1,110 +1,54 @@
-// The text, byte by byte, and the words of a command, as numbers.
+// A command of the text: its words, with a space between each two. Every word is a number.
 //
-// A word is a number in decimal digits, with a minus sign or without. A name is read in the same way, each of its bytes less 48 as a
-// digit, so that each name has a number of its own: `keep` is 59·1000 + 53·100 + 53·10 + 64 = 64,894.
-use crate::says::say_byte;
-use std::io;
-use std::io::Write;
-use std::num::{wrapping_add_usize, wrapping_sub_u8, wrapping_sub_usize};
+// A number has decimal digits, with a minus sign or without. A name is read in the same way, each of its bytes less 48 as a digit, so
+// that each name has a number of its own: `keep` is 59·1000 + 53·100 + 53·10 + 64 = 64,894.
 
 #[derive(Clone, Copy)]
-pub(crate) struct Words {
-    // Whether the text is read between brackets, and whether a command has just ended.
-    pub(crate) between: bool,
-    pub(crate) ready: bool,
-    // The word that is read.
-    value: usize,
-    minus: bool,
-    // The first word of the command, which is its name, and the last six, `f` the last of all.
-    pub(crate) name: usize,
-    pub(crate) a: usize,
-    pub(crate) b: usize,
-    pub(crate) c: usize,
-    pub(crate) d: usize,
-    pub(crate) e: usize,
-    pub(crate) f: usize,
+pub(crate) struct Words<'a> {
+    pub(crate) text: &'a [u8],
 }
 
-// No word yet.
-pub(crate) fn none(between: bool) -> Words {
-    Words {
-        between,
-        ready: false,
-        value: 0,
-        minus: false,
-        name: 0,
-        a: 0,
-        b: 0,
-        c: 0,
-        d: 0,
-        e: 0,
-        f: 0,
+impl<'a> Words<'a> {
+    // The number of its name, which is the first word but for zeros; 0 if there is none.
+    pub(crate) fn name(self) -> usize {
+        self.text
+            .split(|byte| *byte == b' ')
+            .map(number)
+            .find(|name| *name != 0)
+            .unwrap_or(0)
     }
-}
 
-// One byte more of the text. What stands outside brackets is printed.
-pub(crate) fn turn(out: &mut impl Write, mut words: Words, byte: u8) -> io::Result<Words> {
-    if words.between {
-        match byte {
-            b' ' | b'\n' | b';' | b']' => return Ok(ended(words, byte)),
-            b'-' => {
-                words.minus = true;
-            }
-            _ => {
-                words.value = shifted(words.value, wrapping_sub_u8(byte, 48));
-            }
+    // The last words, of which the name may be one. A word that is missing is 0.
+    pub(crate) fn numbers<const N: usize>(self) -> [usize; N] {
+        let mut numbers = [0; N];
+        let words = self.text.rsplit(|byte| *byte == b' ');
+        for (place, word) in numbers.iter_mut().rev().zip(words) {
+            *place = number(word);
         }
-        return Ok(words);
+        numbers
     }
-    words.between = byte == b'[';
-    if byte != b'[' {
-        say_byte(out, byte)?;
+}
+
+// A minus sign may stand anywhere in a word. A number below zero is kept by its bits.
+pub(crate) fn number(word: &[u8]) -> usize {
+    let size = word
+        .iter()
+        .filter(|byte| **byte != b'-')
+        .fold(0, |size, byte| shifted(size, byte.wrapping_sub(b'0')));
+    if word.contains(&b'-') {
+        size.wrapping_neg()
+    } else {
+        size
     }
-    Ok(words)
 }
 
 // One digit more. What would go past the end of the type is left out.
-fn shifted(value: usize, digit: u8) -> usize {
-    if value <= 1_844_674_407_370_955_161 {
-        return wrapping_add_usize(10 * value, digit as usize);
-    }
-    value
-}
-
-// A word ends with this byte, and unless it is a space the command with it. A number below zero is kept by its bits.
-fn ended(words: Words, byte: u8) -> Words {
-    let mut word = words.value;
-    if words.minus {
-        word = wrapping_sub_usize(0, words.value);
-    }
-    let mut name = words.name;
-    if name == 0 {
-        name = word;
-    }
-    Words {
-        between: byte != b']',
-        ready: byte != b' ',
-        value: 0,
-        minus: false,
-        name,
-        a: words.b,
-        b: words.c,
-        c: words.d,
-        d: words.e,
-        e: words.f,
-        f: word,
-    }
+fn shifted(size: usize, digit: u8) -> usize {
+    size.checked_mul(10)
+        .map_or(size, |tens| tens.wrapping_add(usize::from(digit)))
 }
 
 // The number that has these bits; 0 outside the range of its type.
 pub(crate) fn signed(bits: usize) -> i32 {
-    if bits < 2_147_483_648 {
-        return bits as i32;
-    }
-    let rest = !bits;
-    if rest < 2_147_483_648 {
-        !(rest as i32)
-    } else {
-        0
-    }
+    i32::try_from(bits.cast_signed()).unwrap_or(0)
 }

@@ -7,6 +7,7 @@ use Prim.Native.Nat.{ℕ, suc, ◌-◌, ◌%◌, ◌<◌}
 use native.Mathlib.Omega.{arith}
 use lib.IntN.{ℤ}
 use lib.ListN.{length}
+use Rattle.std.specs.Prelude.{Ok, Err}
 use Rattle.whole.specs.Lowest.{Lowest}
 use Rattle.whole.proofs.Stages.{lowest_same}
 use Rattle.fault.specs.declared.Fault.{Fault}
@@ -14,13 +15,12 @@ use Rattle.fault.specs.declared.Refusal.{Refusal}
 use Rattle.fault.specs.declared.Fault.TheVariants.{Layers, Shape, Span, Planes, Strip}
 use Rattle.fault.specs.Gates.{at, due, unless, Open, Stopped, Passed}
 use Rattle.fault.proofs.GateLaws.{Single, Singles, due_single, holds, placed, placed_single, none_placed, one_stop, stopped_not_passed}
-use Rattle.trace.specs.declared.Judgement.TheVariants as trace-is
+use Rattle.trace.specs.declared.Fit.{Fit}
+use Rattle.trace.specs.Judgement.{Judgement}
 use Rattle.trace.specs.Faults.{Accepted, Given}
 use Rattle.trace.specs.Faults as given
 use Rattle.trace.proofs.Exact.{judgement_unique}
 use Rattle.stack.specs.declared.Layer.{Layer}
-use Rattle.stack.specs.declared.StackJudgement.TheVariants.{Refused}
-use Rattle.stack.specs.declared.StripsJudgement.TheVariants as strips-are
 use Rattle.stack.specs.Entries.{entry, trace_of, steps}
 use Rattle.stack.specs.Faults.{Breaks, LayersRight, Spanned, TraceFault, TraceRefused, PlaneFault, AcceptedStack, stack_gates, StackJudged, refused}
 use Rattle.stack.specs.Strips.{BandFault, StripsRight, strips_gates, StripsJudged}
@@ -28,10 +28,13 @@ use Rattle.stack.specs.Strips as strips
 
 -- ---- a stack
 
-pub accepted_unfaulted : {t : List ℤ} {f : Fault} → Accepted t → Given t (trace-is.Unfit f) → ⊥
+abbrev unfit_as : Fault → Judgement
+unfit_as f = Err f
+
+pub accepted_unfaulted : {t : List ℤ} {f : Fault} → Accepted t → Given t (Err f) → ⊥
 accepted_unfaulted {t} {f} a g = clash (judgement_unique (given.fit a) g)
   where
-    clash : {area : ℤ} {n : ℕ} → trace-is.Fit area n ≡ trace-is.Unfit f → ⊥
+    clash : {v : Fit} → Ok v ≡ unfit_as f → ⊥
     clash e = let z : ◌≡◌ {A = ℕ} 0 1 = cc in omega arith
 
 even : (n : ℕ) → n % 2 ≡ 0 → Open (due Shape 0 (n % 2 ≡ 1))
@@ -44,21 +47,21 @@ module _ {es : List Layer} {c : List ℤ} where
   fit_traces : ((k : ℕ) → k < length es → Accepted (trace_of c (entry es k))) → Open (TraceRefused es c)
   fit_traces a r x = accepted_unfaulted (a x.place x.lowest.below) x.lowest.here.given
 
-  pub layers : (LayersRight es → ⊥) → StackJudged es c (Refused (at Layers 0))
+  pub layers : (LayersRight es → ⊥) → StackJudged es c (Err (at Layers 0))
   layers n = refused (inl (refl, n))
 
-  pub shape : LayersRight es → length c % 2 ≡ 1 → StackJudged es c (Refused (at Shape 0))
+  pub shape : LayersRight es → length c % 2 ≡ 1 → StackJudged es c (Err (at Shape 0))
   shape l o = refused (inr (holds l, inl (refl, o)))
 
-  pub span : {k : ℕ} → LayersRight es → length c % 2 ≡ 0 → Lowest (Breaks es c) (length es) k → StackJudged es c (Refused (at Span k))
+  pub span : {k : ℕ} → LayersRight es → length c % 2 ≡ 0 → Lowest (Breaks es c) (length es) k → StackJudged es c (Err (at Span k))
   span l e b = refused (inr (holds l, inr (even (length c) e, inl (placed b))))
 
   pub trace : {k : ℕ} → LayersRight es → Spanned es c → (l : Lowest (TraceFault es c) (length es) k)
-      → StackJudged es c (Refused (at l.here.fault k))
+      → StackJudged es c (Err (at l.here.fault k))
   trace {k} l s t = refused (inr (holds l, inr (even (length c) s.even, inr (none_placed s.spans, inl (record { place = k; lowest = t; is = refl })))))
 
   pub planes : {k : ℕ} → LayersRight es → Spanned es c → ((j : ℕ) → j < length es → Accepted (trace_of c (entry es j)))
-      → Lowest (PlaneFault es) (length es) k → StackJudged es c (Refused (at Planes k))
+      → Lowest (PlaneFault es) (length es) k → StackJudged es c (Err (at Planes k))
   planes l s a p =
       refused (inr (holds l, inr (even (length c) s.even, inr (none_placed s.spans, inr (fit_traces a, inl (placed p))))))
 
@@ -67,9 +70,9 @@ module _ {es : List Layer} {c : List ℤ} where
   accepted_passes a = (holds a.layers, (even (length c) a.spanned.even, (none_placed a.spanned.spans, (fit_traces a.traces, (none_placed a.planes, tt)))))
 
   same_fault : {j k : ℕ} → j ≡ k → (p : TraceFault es c j) (q : TraceFault es c k) → p.fault ≡ q.fault
-  same_fault {j} e p q = unfit_same (judgement_unique p.given (subst (λ (i : ℕ). Given (trace_of c (entry es i)) (trace-is.Unfit q.fault)) (sym e) q.given))
+  same_fault {j} e p q = unfit_same (judgement_unique p.given (subst (λ (i : ℕ). Given (trace_of c (entry es i)) (Err q.fault)) (sym e) q.given))
     where
-      unfit_same : {f g : Fault} → trace-is.Unfit f ≡ trace-is.Unfit g → f ≡ g
+      unfit_same : {f g : Fault} → unfit_as f ≡ unfit_as g → f ≡ g
       unfit_same e = cc
 
   trace_single : Single (TraceRefused es c)
@@ -88,20 +91,20 @@ module _ {es : List Layer} {c : List ℤ} where
   pub stack_open : AcceptedStack es c → Open (Stopped (stack_gates es c))
   stack_open a r x = stopped_not_passed (stack_gates es c) r x (accepted_passes a)
 
-  pub stack_stopped : {r : Refusal} → StackJudged es c (Refused r) → Stopped (stack_gates es c) r
+  pub stack_stopped : {r : Refusal} → StackJudged es c (Err r) → Stopped (stack_gates es c) r
   stack_stopped (refused x) = x
 
 -- ---- the strips of a stack
 
 module _ {es : List Layer} {l : List ℕ} where
-  pub no_bands : (LayersRight es → ⊥) → StripsJudged es l (strips-are.Refused (at Layers 0))
+  pub no_bands : (LayersRight es → ⊥) → StripsJudged es l (Err (at Layers 0))
   no_bands n = strips.refused (inl (refl, n))
 
-  pub wrong : LayersRight es → (length l ≡ steps es → ⊥) → StripsJudged es l (strips-are.Refused (at Strip 0))
+  pub wrong : LayersRight es → (length l ≡ steps es → ⊥) → StripsJudged es l (Err (at Strip 0))
   wrong r n = strips.refused (inr (holds r, inl (refl, n)))
 
   pub band : {k : ℕ} → LayersRight es → length l ≡ steps es → suc k < length es → BandFault es l k
-      → ((j : ℕ) → j < k → BandFault es l j → ⊥) → StripsJudged es l (strips-are.Refused (at Strip k))
+      → ((j : ℕ) → j < k → BandFault es l j → ⊥) → StripsJudged es l (Err (at Strip k))
   band {k} r e h f n =
       strips.refused (inr (holds r, inr (holds e, inl (placed (record { below = omega arith; here = f; none = n })))))
 
@@ -119,7 +122,7 @@ module _ {es : List Layer} {l : List ℕ} where
   strips_open s r x = stopped_not_passed (strips_gates es l) r x (right_passes s)
 
   -- where there are bands
-  pub strips_stopped : {r : Refusal} → LayersRight es → StripsJudged es l (strips-are.Refused r) → Stopped (strips_gates es l) r
+  pub strips_stopped : {r : Refusal} → LayersRight es → StripsJudged es l (Err r) → Stopped (strips_gates es l) r
   strips_stopped {r} s (strips.refused (inl x)) = absurd (x.1 s)
   strips_stopped {r} s (strips.refused (inr x)) = x.1
 

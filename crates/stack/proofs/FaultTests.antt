@@ -1,10 +1,9 @@
 -- What the tests of an entry tell: whether it starts and ends right, breaks the stack rule, or has a plane at fault. The tests
 -- are over the entry's own numbers, which are those of the list. Assumes nothing.
 use mathlib.Core.Path.{◌≡◌, refl, sym, ap, ◌∙◌}
-use mathlib.Core.Bool.{Bool, not, ◌&&◌, ◌||◌}
-use mathlib.Core.Logic.{◌⊎◌, inl, inr}
+use mathlib.Core.Bool.{Bool, not, ◌&&◌}
 use mathlib.Core.List.{List}
-use Prim.Native.Nat.{ℕ, zero, suc, ◌+◌, ◌-◌, ◌/◌, ◌≤◌}
+use Prim.Native.Nat.{ℕ, zero, suc, ◌+◌, ◌-◌, ◌/◌, ◌≤◌, ◌<◌}
 use native.Mathlib.Decide.{ℕ_discrete}
 use native.Mathlib.Omega.{arith}
 use lib.Dec.{eqb}
@@ -12,7 +11,7 @@ use lib.IntN.{ℤ}
 use lib.ListN.{length}
 use lib.Signed.{le_z, ◌≤ℤ◌}
 use Rattle.whole.specs.Tells.{Tells}
-use Rattle.whole.proofs.Telling.{tells_same, tells_eqb, tells_not, tells_and, tells_or}
+use Rattle.whole.proofs.Telling.{tells_same, tells_eqb, tells_not, tells_and}
 use Rattle.whole.specs.Between.{Within}
 use Rattle.whole.proofs.Order.{le_z_true, le_le_z}
 use Rattle.stack.specs.declared.Layer.{Layer}
@@ -82,31 +81,27 @@ tells_le_z : (a b : ℤ) → Tells (a ≤ℤ b) (le_z a b)
 tells_le_z a b = record { yes = le_z_true a b; when = le_le_z }
 
 -- z and y are what the machine holds for the planes of layer k and of the one below
-module _ (es : List Layer) {a : Bool} where
+module _ (es : List Layer) where
+  pub plane_out : (k : ℕ) {z : ℤ} → z ≡ (entry es k).plane → (Within 100000 z → ⊥) → PlaneFault es k
+  plane_out k p n = outside (λ w. n (rw p w))
+
   -- layer 0 by its range alone
-  pub plane_zero : (k : ℕ) {z : ℤ} → k ≡ 0 → z ≡ (entry es k).plane → Tells (Within 100000 z) a → Tells (PlaneFault es k) (not a)
-  plane_zero k e p t = tells_same (λ n. outside (rw p at n)) (λ f. rw p (only f e)) (tells_not t)
+  pub plane_zero : {k : ℕ} {z : ℤ} → z ≡ (entry es k).plane → Within 100000 z → k ≡ 0 → PlaneFault es k → ⊥
+  plane_zero p w e (outside n) = n (rw p at w)
+  plane_zero p w e (not_above {k = k} h) = none k e
     where
       none : (k : ℕ) → suc k ≡ 0 → ⊥
       none k e = omega arith
 
-      only : {k : ℕ} → PlaneFault es k → k ≡ 0 → Within 100000 (entry es k).plane → ⊥
-      only (outside n) e = n
-      only (not_above {k = k} h) e = absurd (none k e)
-
-  plane_suc : (k : ℕ) → Tells (Within 100000 (entry es (suc k)).plane) a
-      → Tells (PlaneFault es (suc k)) (not a || le_z (entry es (suc k)).plane (entry es k).plane)
-  plane_suc k t = tells_same from to (tells_or (tells_not t) (tells_le_z (entry es (suc k)).plane (entry es k).plane))
+  -- any other by the one below too
+  pub plane_above : (k : ℕ) {z y : ℤ} → z ≡ (entry es k).plane → y ≡ (entry es (k - 1)).plane → Within 100000 z → 0 < k
+      → Tells (PlaneFault es k) (le_z z y)
+  plane_above zero p q w h = absurd (omega arith)
+  plane_above (suc k) {z} {y} p q w h = tells_same from to (tells_le_z z y)
     where
-      from : ((Within 100000 (entry es (suc k)).plane → ⊥) ⊎ ((entry es (suc k)).plane ≤ℤ (entry es k).plane)) → PlaneFault es (suc k)
-      from (inl n) = outside n
-      from (inr h) = not_above h
+      from : z ≤ℤ y → PlaneFault es (suc k)
+      from h = not_above (rw (p, q, pred k) at h)
 
-      to : PlaneFault es (suc k) → (Within 100000 (entry es (suc k)).plane → ⊥) ⊎ ((entry es (suc k)).plane ≤ℤ (entry es k).plane)
-      to (outside n) = inl n
-      to (not_above h) = inr h
-
-  pub plane_above : (k : ℕ) {z y : ℤ} → (k ≡ 0 → ⊥) → z ≡ (entry es k).plane → y ≡ (entry es (k - 1)).plane
-      → Tells (Within 100000 z) a → Tells (PlaneFault es k) (not a || le_z z y)
-  plane_above zero n p q t = absurd (n refl)
-  plane_above (suc k) n p q t = rw (p, q, pred k) (plane_suc k (rw p at t))
+      to : PlaneFault es (suc k) → z ≤ℤ y
+      to (outside n) = absurd (n (rw p at w))
+      to (not_above h) = rw (p, q, pred k) h

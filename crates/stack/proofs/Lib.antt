@@ -2,8 +2,6 @@
 pub mod StackLaws
 pub mod Exact
 pub mod Cases
-pub mod Told
-pub mod Laying
 mod StripLaws
 mod FaultTests
-mod Judging
+mod StackCases

@@ -22,7 +22,9 @@ use Rattle.strip.specs.Pair.{Pair}
 use Rattle.trace.specs.Judged.{in_range}
 use Rattle.trace.proofs.PointLaws.{range_within, within_range}
 use Rattle.stack.specs.declared.Layer.{Layer}
-use Rattle.stack.specs.Entries.{entry, trace_of, stop, start, steps, band_start}
+use Rattle.stack.specs.declared.Band.{Band}
+use Rattle.stack.specs.Entries.{entry, band_at, trace_of, stop, start, steps, band_start}
+use Rattle.stack.specs.Strips.{band_part}
 use Rattle.stack.specs.Faults.{starts, ends, LayersRight, Spanned, PlaneFault, outside, not_above, AcceptedStack}
 
 -- two numbers that cannot differ are equal
@@ -101,6 +103,20 @@ spanned_count {es} {c} s k h a =
 
 -- ---- where the bands' steps lie
 
+-- the two layers of a band, and their counts
+module _ (es : List Layer) (k : ℕ) {b : Band} (p : b ≡ band_at es k) where
+  pub lower_is : b.lower ≡ entry es k
+  lower_is = ap (λ (b : Band). b.lower) p
+
+  pub upper_is : b.upper ≡ entry es (suc k)
+  upper_is = ap (λ (b : Band). b.upper) p
+
+  pub lower_count : b.lower.count ≡ (entry es k).count
+  lower_count = ap (λ (e : Layer). e.count) lower_is
+
+  pub upper_count : b.upper.count ≡ (entry es (suc k)).count
+  upper_count = ap (λ (e : Layer). e.count) upper_is
+
 pub band_next : (es : List Layer) (k : ℕ) → band_start es (k + 1) ≡ band_start es k + ((entry es k).count + (entry es (suc k)).count)
 unfolding band_start
 band_next es k = ap (band_start es) (add-one k)
@@ -133,6 +149,21 @@ band_within (e ∷ f ∷ es) (suc k) h = omega (arith, band_cons e (f ∷ es) (s
 pub band_fits : (es : List Layer) (k : ℕ) → suc k < length es → band_start es k + ((entry es k).count + (entry es (suc k)).count) ≤ steps es
 unfolding band_start
 band_fits es k h = band_within es k h
+
+module _ (es : List Layer) (k : ℕ) {at : ℕ} {b : Band} (a : at ≡ band_start es k) (p : b ≡ band_at es k) where
+  -- where the band ends
+  pub band_ends : at + (b.lower.count + b.upper.count) ≡ band_start es (suc k)
+  unfolding band_start
+  band_ends = omega (arith, lower_count es k p, upper_count es k p)
+
+  -- inside a slice of all steps
+  pub band_inside : (l : List ℕ) → suc k < length es → length l ≡ steps es → at + (b.lower.count + b.upper.count) ≤ length l
+  band_inside l h s = omega (arith, lower_count es k p, upper_count es k p, band_fits es k h)
+
+  -- its n steps, as the code cuts them
+  pub band_cut : (l : List ℕ) {n : ℕ} → n ≡ b.lower.count + b.upper.count → take (at + n - at) (drop at l) ≡ band_part es l k
+  unfolding band_part
+  band_cut l {n} e = rw (part_from at n l, e, lower_count es k p, upper_count es k p, a)
 
 -- at most 500 steps a band
 steps_within : (e : Layer) (es : List Layer) → ((k : ℕ) → k ≤ length es → Counted (entry (e ∷ es) k)) → steps (e ∷ es) ≤ length es * 500

@@ -2,7 +2,7 @@
 -- the numbers of steps, since they can be read back. Assumes nothing.
 use mathlib.Core.Path.{◌≡◌, refl, sym, ap, ◌∙◌, subst}
 use mathlib.Core.List.{List, [], ◌∷◌, ◌++◌, map-append}
-use mathlib.Core.Bool.{Bool, ◌&&◌}
+use mathlib.Core.Bool.{Bool}
 use Prim.Native.Nat.{ℕ, zero, suc, ◌+◌, ◌-◌, ◌≤◌, ◌<◌}
 use native.Mathlib.Numerals.{add-one}
 use native.Mathlib.Omega.{arith}
@@ -10,18 +10,16 @@ use lib.Dec.{eqb}
 use lib.ListN.{length, get_or, take, drop}
 use lib.Seq.{take-suc, take_all}
 use Rattle.whole.specs.Tells.{Tells}
-use Rattle.whole.proofs.Telling.{tells_same, tells_eqb, tells_and}
+use Rattle.whole.proofs.Telling.{tells_same, tells_eqb}
 use Rattle.ways.specs.Strip.{Step, A, B, steps_a, steps_b}
 use Rattle.ways.proofs.Way.{steps_append}
 use Rattle.strip.specs.Bytes.{byte_of, bytes, IsStrip}
 use Rattle.strip.proofs.BytesLaws.{strip_steps}
 use Rattle.stack.specs.declared.Layer.{Layer}
-use Rattle.stack.specs.declared.Stack.{Stack}
-use Rattle.stack.specs.Entries.{entry, steps, band_start}
-use Rattle.stack.specs.Strips.{band_part, BandStrip}
-use Rattle.stack.specs.Laid.{laid}
-use Rattle.stack.proofs.Laying.{count_at, count_above, laid_fits}
-use Rattle.stack.proofs.StackLaws.{part_from}
+use Rattle.stack.specs.declared.Band.{Band}
+use Rattle.stack.specs.Entries.{band_at, band_start}
+use Rattle.stack.specs.Strips.{BandStrip}
+use Rattle.stack.proofs.StackLaws.{lower_count, upper_count, band_cut}
 
 -- no byte, no step
 pub strip_none : IsStrip 0 0 []
@@ -75,21 +73,17 @@ strip_same_lem s t =
 pub strip_whole : {a b : ℕ} (l : List ℕ) (k : ℕ) → k ≡ length l → IsStrip a b (take k l) → IsStrip a b l
 strip_whole {a} {b} l k e s = subst (IsStrip a b) (take_all k l (omega arith)) s
 
--- what is counted tells whether the bytes are a strip of m and n steps
-pub strip_tells : {a b : ℕ} (m n : ℕ) {l : List ℕ} → IsStrip a b l → Tells (IsStrip m n l) (eqb a m && eqb b n)
-strip_tells {a} {b} m n {l} s =
-    tells_same (λ e. rw (← e.0, ← e.1) s) (strip_same_lem s) (tells_and (tells_eqb a m) (tells_eqb b n))
+-- what is counted tells whether the bytes are a strip of m and n steps: the steps A first, then the steps B
+pub other_count : {a b m n : ℕ} {l : List ℕ} → IsStrip a b l → (a ≡ m → ⊥) → IsStrip m n l → ⊥
+other_count s d t = d (strip_same_lem s t).0
+
+pub strip_tells : {a b : ℕ} (m n : ℕ) {l : List ℕ} → IsStrip a b l → a ≡ m → Tells (IsStrip m n l) (eqb b n)
+strip_tells {a} {b} m n {l} s p = tells_same (λ e. rw (← p, ← e) s) (λ t. (strip_same_lem s t).1) (tells_eqb b n)
 
 -- ---- the part of a band
 
-module _ (st : Stack) (k at : ℕ) (l : List ℕ) {d e : Layer} (a : at ≡ band_start (laid st) k)
-    (p : d ≡ entry (laid st) k) (q : e ≡ entry (laid st) (k + 1)) where
-  -- it lies inside a slice of all steps
-  pub band_inside : suc k < st.count → length l ≡ steps (laid st) → at + (d.count + e.count) ≤ length l
-  band_inside h s = omega (arith, count_at (laid st) k p, count_above (laid st) k q, laid_fits st k h)
-
-  -- whether the part that is lent is a strip of the two counts is whether the band's is
-  pub band_tells : {r : Bool} → Tells (IsStrip d.count e.count (take (at + (d.count + e.count) - at) (drop at l))) r
-      → Tells (BandStrip (laid st) l k) r
-  unfolding band_part
-  band_tells t = rw (← count_at (laid st) k p, ← count_above (laid st) k q, ← a) (rw (part_from at (d.count + e.count) l) at t)
+-- whether the part that is lent, of n steps, is a strip of the two counts is whether the band's is
+pub band_tells : (es : List Layer) (k at : ℕ) (l : List ℕ) {b : Band} {n : ℕ} {r : Bool} → at ≡ band_start es k → b ≡ band_at es k
+    → n ≡ b.lower.count + b.upper.count → Tells (IsStrip b.lower.count b.upper.count (take (at + n - at) (drop at l))) r
+    → Tells (BandStrip es l k) r
+band_tells es k at l a p e t = rw (← lower_count es k p, ← upper_count es k p) (rw (band_cut es k a p l e) at t)

@@ -2,6 +2,7 @@
 -- common coordinate list."
 use Rattle.std.specs.Prelude.{List, [], ◌∷◌, ℕ, zero, suc, ◌+◌, ◌*◌, ℤ, pos, get_or, take, drop}
 use Rattle.stack.specs.declared.Layer.{Layer}
+use Rattle.stack.specs.declared.Band.{Band}
 
 -- what is read past the last entry
 abbrev pub no_layer : Layer
@@ -9,6 +10,10 @@ no_layer = record { plane = pos 0; first = 0; count = 0 }
 
 abbrev pub entry : List Layer → ℕ → Layer
 entry es k = get_or es k no_layer
+
+-- layer k and the one above it
+abbrev pub band_at : List Layer → ℕ → Band
+band_at es k = record { lower = entry es k; upper = entry es (suc k) }
 
 -- the coordinates of a layer's trace
 unfoldable pub trace_of : List ℤ → Layer → List ℤ

@@ -1,16 +1,14 @@
 -- 01, "What comes back", for a stack: LAYERS, SHAPE, SPAN, trace by trace 2 to 6, PLANES, each at the lowest place at fault.
-use Rattle.std.specs.Prelude.{◌≡◌, List, [], ◌∷◌, ℕ, suc, ◌/◌, ◌%◌, ◌≤◌, ◌<◌, length, ℤ, ◌≤ℤ◌}
+use Rattle.std.specs.Prelude.{◌≡◌, List, [], ◌∷◌, ℕ, suc, ◌/◌, ◌%◌, ◌≤◌, ◌<◌, length, ℤ, ◌≤ℤ◌, Result, Ok, Err}
 use Rattle.whole.specs.Between.{Within}
 use Rattle.whole.specs.Lowest.{Lowest}
 use Rattle.fault.specs.declared.Fault.{Fault}
 use Rattle.fault.specs.declared.Refusal.{Refusal}
 use Rattle.fault.specs.declared.Fault.TheVariants.{Layers, Shape, Span, Planes}
-use Rattle.trace.specs.declared.Judgement.TheVariants.{Unfit}
 use Rattle.trace.specs.Faults.{Accepted, Given}
 use Rattle.fault.specs.Gates.{at, Gate, due, unless, Placed, Stopped}
 use Rattle.stack.specs.declared.Layer.{Layer}
-use Rattle.stack.specs.declared.StackJudgement.{StackJudgement}
-use Rattle.stack.specs.declared.StackJudgement.TheVariants.{Fit, Refused}
+use Rattle.stack.specs.declared.Fit.{Fit}
 use Rattle.stack.specs.Entries.{entry, trace_of, stop, start, steps}
 
 -- 11: not 2 to 20 layers
@@ -27,7 +25,7 @@ pub data Breaks (es : List Layer) (coords : List ℤ) (k : ℕ) : Type 0 where
 -- 2 to 6: the trace of layer k has a fault
 pub record TraceFault (es : List Layer) (coords : List ℤ) (k : ℕ) : Type 0 where
   pub fault : Fault
-  pub given : Given (trace_of coords (entry es k)) (Unfit fault)
+  pub given : Given (trace_of coords (entry es k)) (Err fault)
 
 -- the fault of the lowest trace that has one
 pub record TraceRefused (es : List Layer) (coords : List ℤ) (r : Refusal) : Type 0 where
@@ -58,6 +56,6 @@ stack_gates es coords =
     ∷ TraceRefused es coords ∷ Placed Planes (PlaneFault es) (length es) ∷ []
 
 -- the answer: the first refusal that is due; else the numbers of points and of steps of all bands
-pub data StackJudged (es : List Layer) (coords : List ℤ) : StackJudgement → Type 0 where
-  refused : {r : Refusal} → Stopped (stack_gates es coords) r → StackJudged es coords (Refused r)
-  fit : AcceptedStack es coords → StackJudged es coords (Fit (length coords / 2) (steps es))
+pub data StackJudged (es : List Layer) (coords : List ℤ) : Result Fit Refusal → Type 0 where
+  refused : {r : Refusal} → Stopped (stack_gates es coords) r → StackJudged es coords (Err r)
+  fit : AcceptedStack es coords → StackJudged es coords (Ok (record { points = length coords / 2; steps = steps es }))

@@ -2,5 +2,3 @@
 pub mod Entries
 pub mod Faults
 pub mod Strips
-pub mod Laid
-pub mod Status

@@ -1,13 +1,11 @@
 -- 01: "a stack's strips one after another, fill their slice exactly; any other length is STRIP at place 0"; else the lowest band
 -- whose own part, cut by the counts, is no strip.
-use Rattle.std.specs.Prelude.{◌≡◌, List, [], ◌∷◌, ℕ, suc, ◌+◌, ◌-◌, ◌<◌, length, take, drop}
+use Rattle.std.specs.Prelude.{◌≡◌, List, [], ◌∷◌, ℕ, suc, ◌+◌, ◌-◌, ◌<◌, length, take, drop, Result, Ok, Err, ⊤}
 use Rattle.fault.specs.declared.Fault.TheVariants.{Layers, Strip}
 use Rattle.fault.specs.declared.Refusal.{Refusal}
 use Rattle.fault.specs.Gates.{Gate, unless, Placed, Stopped}
 use Rattle.strip.specs.Bytes.{IsStrip}
 use Rattle.stack.specs.declared.Layer.{Layer}
-use Rattle.stack.specs.declared.StripsJudgement.{StripsJudgement}
-use Rattle.stack.specs.declared.StripsJudgement.TheVariants.{Whole, Refused}
 use Rattle.stack.specs.Entries.{entry, steps, band_start}
 use Rattle.stack.specs.Faults.{LayersRight}
 
@@ -32,6 +30,6 @@ abbrev pub strips_gates : List Layer → List ℕ → List Gate
 strips_gates es l = unless Strip (length l ≡ steps es) ∷ Placed Strip (BandFault es l) (length es - 1) ∷ []
 
 -- LAYERS, so that there are bands, and STRIP
-pub data StripsJudged (es : List Layer) (l : List ℕ) : StripsJudgement → Type 0 where
-  refused : {r : Refusal} → Stopped (unless Layers (LayersRight es) ∷ strips_gates es l) r → StripsJudged es l (Refused r)
-  whole : LayersRight es → StripsRight es l → StripsJudged es l Whole
+pub data StripsJudged (es : List Layer) (l : List ℕ) : Result ⊤ Refusal → Type 0 where
+  refused : {r : Refusal} → Stopped (unless Layers (LayersRight es) ∷ strips_gates es l) r → StripsJudged es l (Err r)
+  whole : LayersRight es → StripsRight es l → StripsJudged es l (Ok tt)

@@ -1,7 +1,6 @@
 -- Laws of the worth and the value of a strip for the crates above, and the theorems on judging one (Exact).
 pub mod PairLaws
 pub mod JudgingLaws
-pub mod ArrayLaws
 pub mod WorthLaws
 pub mod ValueLaws
 pub mod SameAmount
@@ -9,4 +8,4 @@ pub mod BytesLaws
 pub mod BandLaws
 pub mod Exact
 mod Along
-mod StepLaws
+pub mod StepLaws

@@ -1,10 +1,9 @@
--- The strip between two traces: the pair, the worth of a step, the value W, the bytes of a strip, judging one made elsewhere, and an answer's status.
+-- The strip between two traces: the pair, the worth of a step, the value W, the bytes of a strip, judging one made elsewhere.
 pub mod Pair
 pub mod Worth
 pub mod Bytes
 pub mod Judging
-pub mod Status
 pub mod Walk
 pub mod Band
-pub mod Arrays
+pub mod Outlines
 pub mod Weighed

@@ -14,15 +14,19 @@ use mir.Syntax.{w32}
 use mir.Val.{to_z, of_z}
 use Rattle.whole.specs.Between.{Within}
 use Rattle.whole.specs.Sum.{sum}
-use Rattle.whole.specs.Tests.{some, eq_z}
+use Rattle.std.specs.Ordering.{int_eq}
+use Rattle.whole.specs.Tests.{some}
 use Rattle.whole.proofs.Bounds.{between_wider, sum_within}
 use Rattle.whole.proofs.Machine.{Holds, held, from, times, minus}
-use Rattle.whole.proofs.TestLaws.{true≢false, and_true, or_false, some_none}
+use Rattle.std.specs.Prelude.{Err}
+use mathlib.Core.Logic.{◌⊎◌, inl, inr}
+use Rattle.whole.proofs.TestLaws.{and_true, some_none, some_yes}
+use Rattle.fault.specs.declared.Fault.TheVariants.{Range}
 use Rattle.trace.specs.declared.Point.{Point}
 use Rattle.trace.specs.declared.Walked.{Walked}
 use Rattle.trace.specs.Points.{count, px, py, segment, twice_area}
 use Rattle.trace.specs.Judged.{in_range, out_at, twin_at, verdict_of, judged}
-use Rattle.trace.specs.Walk.{inside, same_point, Ready, Stepped, WalkedOn, Clear, Along}
+use Rattle.trace.specs.Walk.{inside, same_point, Ready, Stepped, Clear, Along}
 use Rattle.trace.proofs.PointLaws.{counted, px_at, py_at, px_round, py_round, Good, segment_within, cross_within, out_within, range_within, within_range}
 
 -- p is point k of the list
@@ -69,11 +73,11 @@ good c k h e = record {
   in_y = λ i l. subst (Within 100000) (sym (py_at c i (omega arith))) (out_within c (2 * i + 1) (some_none (2 * k + 2) (out_at c) e (2 * i + 1) (omega arith)));
 }
 
-pub along_ready : (c : List ℤ) (k : ℕ) (s : Walked) → Along c k s → k < count c → k ≤ 250 → s.out ≡ false → Ready s
+pub along_ready : (c : List ℤ) (k : ℕ) (s : Walked) → Along c k s → k < count c → k ≤ 250 → Ready s
 unfolding inside
-along_ready c k s a h l e =
-    let g : Good c k = good c k h (sym a.out ∙ e) in
-    let r : Clear c k s = a.clear e in
+along_ready c k s a h l =
+    let g : Good c k = good c k h a.in_range in
+    let r : Clear c k s = a.clear in
     record {
       inside = ap₂ ◌&&◌ (ap in_range r.at_x ∙ within_range (px c k) (g.in_x k (omega arith))) (ap in_range r.at_y ∙ within_range (py c k) (g.in_y k (omega arith)));
       small = subst (Within 10000000000000) (sym r.area) (between_wider (omega arith) (omega arith) (sum_within k 20000000000 (segment c) (λ i b. segment_within c k i g b)));
@@ -81,16 +85,16 @@ along_ready c k s a h l e =
 
 -- ---- the first point
 
-pub along_begun : (c : List ℤ) (p : Point) (s : Walked) → 0 < count c → PointIs c 0 p
-    → s.at ≡ p → s.area ≡ pos 0 → s.twin ≡ false → s.out ≡ not (inside p) → Along c 0 s
+pub along_begun : (c : List ℤ) (p : Point) → 0 < count c → PointIs c 0 p → inside p ≡ true
+    → Along c 0 (record { at = p; area = pos 0; twin = false })
 unfolding sum some
-along_begun c p s h q a r t o = record {
-  out = o ∙ out_more c 0 p q;
-  clear = λ e. record {
-    at_x = ap (λ (v : Point). v.x) a ∙ q.x ∙ sym (px_at c 0 h);
-    at_y = ap (λ (v : Point). v.y) a ∙ q.y ∙ sym (py_at c 0 h);
-    area = r;
-    twin = t;
+along_begun c p h q i = record {
+  in_range = sym (out_more c 0 p q) ∙ ap not i;
+  clear = record {
+    at_x = q.x ∙ sym (px_at c 0 h);
+    at_y = q.y ∙ sym (py_at c 0 h);
+    area = refl;
+    twin = refl;
   };
 }
 
@@ -116,56 +120,73 @@ clear_step c k s p r q ex ey t = record {
     term = ap₂ ◌+ℤ◌ q.area (ap₂ ◌-ℤ◌ (ap₂ ◌*ℤ◌ q.at_x ey) (ap₂ ◌*ℤ◌ q.at_y ex ∙ *ℤ_comm (py c k) (px c (k + 1))))
 
     same : same_point s.at p ≡ twin_at c k
-    same = ap₂ ◌&&◌ (ap₂ eq_z q.at_x ex) (ap₂ eq_z q.at_y ey)
+    same = ap₂ ◌&&◌ (ap₂ int_eq q.at_x ex) (ap₂ int_eq q.at_y ey)
 
 pub along_step : (c : List ℤ) (k : ℕ) (s : Walked) (p : Point) (r : Walked) → Along c k s → k + 1 < count c → PointIs c (k + 1) p
-    → WalkedOn s p r → Along c (k + 1) r
-along_step c k s p r a h q w = record {
-  out = w.out ∙ ap (λ (b : Bool). b || not (inside p)) (a.out ∙ ap (λ (i : ℕ). some i (out_at c)) (eq k)) ∙ out_more c (k + 1) p q;
-  clear = λ e. clear_step c k s p r (a.clear (or_false s.out (not (inside p)) (sym w.out ∙ e)).0)
-      (q.x ∙ sym (px_at c (k + 1) h)) (q.y ∙ sym (py_at c (k + 1) h)) (w.clear e);
+    → inside p ≡ true → Stepped s p r → Along c (k + 1) r
+along_step c k s p r a h q i t = record {
+  in_range =
+      sym (out_more c (k + 1) p q) ∙ ap₂ ◌||◌ (ap (λ (i : ℕ). some i (out_at c)) (eq k) ∙ a.in_range) (ap not i);
+  clear = clear_step c k s p r a.clear (q.x ∙ sym (px_at c (k + 1) h)) (q.y ∙ sym (py_at c (k + 1) h)) t;
 }
   where
-    eq : (k : ℕ) → 2 * k + 2 ≡ 2 * (k + 1)
+    eq : (k : ℕ) → 2 * (k + 1) ≡ 2 * k + 2
     eq k = omega arith
+
+-- of a trace of 3 to 250 points the judgement is the verdict of the walk
+pub judged_walk : (c : List ℤ) (n : ℕ) → 2 * n ≡ length c → 3 ≤ n → n ≤ 250
+    → verdict_of (some (length c) (out_at c)) (some (count c) (twin_at c)) (twice_area c) (count c) ≡ judged c
+unfolding judged
+judged_walk c n e l h =
+    let m : n ≡ count c = counted c n e in
+    let even : eqb (length c % 2) 1 ≡ false = ne_eqb (length c % 2) 1 (λ o. omega arith) in
+    let enough : ltb (count c) 3 ≡ false = le-ltb (count c) 3 (omega arith) in
+    let few : ltb 250 (count c) ≡ false = le-ltb 250 (count c) (omega arith) in
+    rw (even, enough, few)
+
+-- ---- a point out of range
+
+-- RANGE, whichever point it is
+pub out_of_range : (c : List ℤ) (n k : ℕ) (p : Point) → 2 * n ≡ length c → 3 ≤ n → n ≤ 250 → k < n → PointIs c k p → inside p ≡ false
+    → Err Range ≡ judged c
+unfolding verdict_of
+out_of_range c n k p e l h b q o =
+    ap (λ (t : Bool). verdict_of t (some (count c) (twin_at c)) (twice_area c) (count c)) (sym found) ∙ judged_walk c n e l h
+  where
+    found : some (length c) (out_at c) ≡ true
+    found = either (or_true (out_at c (2 * k)) (out_at c (2 * k + 1)) (sym (out_point c k p q) ∙ ap not o))
+      where
+        or_true : (a b : Bool) → (a || b) ≡ true → (a ≡ true) ⊎ (b ≡ true)
+        or_true true b e = inl refl
+        or_true false b e = inr e
+
+        either : (out_at c (2 * k) ≡ true) ⊎ (out_at c (2 * k + 1) ≡ true) → some (length c) (out_at c) ≡ true
+        either (inl x) = some_yes (length c) (out_at c) (2 * k) (omega (arith, e)) x
+        either (inr x) = some_yes (length c) (out_at c) (2 * k + 1) (omega (arith, e)) x
 
 -- ---- back at the first point
 
-inside_first : (c : List ℤ) (k : ℕ) (p : Point) → PointIs c 0 p → some (2 * k + 2) (out_at c) ≡ false → not (inside p) ≡ false
-inside_first c k p q e =
-    out_point c 0 p q
-    ∙ ap₂ ◌||◌ (some_none (2 * k + 2) (out_at c) e 0 (omega arith)) (some_none (2 * k + 2) (out_at c) e 1 (omega arith))
-
 pub along_closed : (c : List ℤ) (n k : ℕ) (s : Walked) (p : Point) (r : Walked) → 2 * n ≡ length c → k + 1 ≡ n → Along c k s
-    → PointIs c 0 p → WalkedOn s p r
-    → verdict_of r.out r.twin r.area n ≡ verdict_of (some (length c) (out_at c)) (some (count c) (twin_at c)) (twice_area c) (count c)
+    → PointIs c 0 p → Stepped s p r
+    → verdict_of false r.twin r.area n ≡ verdict_of (some (length c) (out_at c)) (some (count c) (twin_at c)) (twice_area c) (count c)
 unfolding verdict_of twice_area
-along_closed c n k s p r e l a q w = go (some (2 * k + 2) (out_at c)) refl
+along_closed c n k s p r e l a q w = rw (all, round.twin, round.area, l, m)
   where
-    all : some (length c) (out_at c) ≡ some (2 * k + 2) (out_at c)
-    all = ap (λ (i : ℕ). some i (out_at c)) (omega arith)
+    all : some (length c) (out_at c) ≡ false
+    all = ap (λ (i : ℕ). some i (out_at c)) (omega arith) ∙ a.in_range
 
     m : n ≡ count c
     m = counted c n e
 
-    out_is : r.out ≡ (some (2 * k + 2) (out_at c) || not (inside p))
-    out_is = w.out ∙ ap (λ (b : Bool). b || not (inside p)) a.out
+    first : 0 < count c
+    first = omega (arith, m)
 
-    go : (t : Bool) → some (2 * k + 2) (out_at c) ≡ t
-        → verdict_of r.out r.twin r.area n ≡ verdict_of (some (length c) (out_at c)) (some (count c) (twin_at c)) (twice_area c) (count c)
-    go true t = rw (all, t, out_is, t)
-    go false t =
-        let clear : r.out ≡ false = out_is ∙ ap₂ ◌||◌ t (inside_first c k p q t) in
-        let first : 0 < count c = omega (arith, m) in
-        let round : Clear c (k + 1) r = clear_step c k s p r (a.clear (a.out ∙ t))
+    round : Clear c (k + 1) r
+    round = clear_step c k s p r a.clear
         (q.x ∙ sym (px_at c 0 first) ∙ sym (px_round c (k + 1) (sym m ∙ sym l)))
-        (q.y ∙ sym (py_at c 0 first) ∙ sym (py_round c (k + 1) (sym m ∙ sym l))) (w.clear clear) in
-        rw (all, t, clear, round.twin, round.area, l, m)
+        (q.y ∙ sym (py_at c 0 first) ∙ sym (py_round c (k + 1) (sym m ∙ sym l))) w
 
 -- ---- what `walked_on` shows
-
-pub walked_out : (s : Walked) (p : Point) (r : Walked) → r.out ≡ true → (s.out || not (inside p)) ≡ true → WalkedOn s p r
-walked_out s p r e f = record { out = e ∙ sym f; clear = λ g. absurd (true≢false (sym e ∙ g)) }
 
 pub inside_both : (p : Point) → inside p ≡ true → Within 100000 p.x × Within 100000 p.y
 unfolding inside
@@ -184,14 +205,3 @@ cross_holds m a p ia ip e =
   where
     as32 : {z : ℤ} → Within 100000 z → Holds 100000 100000 (to_z w32 (of_z w32 z)) z
     as32 b = held w32 (from refl b) tt
-
--- of a trace of 3 to 250 points the judgement is the verdict of the walk
-pub judged_walk : (c : List ℤ) (n : ℕ) → 2 * n ≡ length c → 3 ≤ n → n ≤ 250
-    → verdict_of (some (length c) (out_at c)) (some (count c) (twin_at c)) (twice_area c) (count c) ≡ judged c
-unfolding judged
-judged_walk c n e l h =
-    let m : n ≡ count c = counted c n e in
-    let even : eqb (length c % 2) 1 ≡ false = ne_eqb (length c % 2) 1 (λ o. omega arith) in
-    let enough : ltb (count c) 3 ≡ false = le-ltb (count c) 3 (omega arith) in
-    let few : ltb 250 (count c) ≡ false = le-ltb 250 (count c) (omega arith) in
-    rw (even, enough, few)

@@ -13,16 +13,18 @@ use lib.ListN.{length, get_or}
 use lib.Signed.{◌≤ℤ◌, le_z}
 use borrow.Author.Tests.{eqb-true, eqb-false, ltb-true, ltb-false, eq-eqb, ne_eqb, lt-ltb, not-true}
 use Rattle.whole.specs.Between.{Within}
-use Rattle.whole.specs.Tests.{some, eq_z}
+use Rattle.std.specs.Ordering.{int_eq}
+use Rattle.std.proofs.lemmas.Bool.Decides.{Decides-int_eq}
+use Rattle.whole.specs.Tests.{some}
 use Rattle.whole.proofs.Order.{le_z_true, le_z_false, le_le_z, lt_le_z, clash}
-use Rattle.whole.proofs.TestLaws.{true≢false, and_true, eq_z_true, eq_eq_z, some_none, some_at, some_yes, not_true_false}
+use Rattle.whole.proofs.TestLaws.{true≢false, and_true, some_none, some_at, some_yes, not_true_false}
 use Rattle.fault.specs.declared.Fault.{Fault}
 use Rattle.fault.specs.declared.Refusal.{Refusal}
 use Rattle.fault.specs.Gates.{at, due, Open, Stopped}
 use Rattle.fault.proofs.GateLaws.{not_due}
 use Rattle.fault.specs.declared.Fault.TheVariants.{Shape, Few, Many, Range, Twin, Turn}
-use Rattle.trace.specs.declared.Judgement.{Judgement}
-use Rattle.trace.specs.declared.Judgement.TheVariants.{Fit, Unfit}
+use Rattle.std.specs.Prelude.{Ok, Err}
+use Rattle.trace.specs.Judgement.{Judgement, fit_of}
 use Rattle.trace.specs.Points.{count, px, py, twice_area}
 use Rattle.trace.specs.Faults.{IsRange, IsTwin, Accepted, trace_gates, Given, unfit, fit}
 use Rattle.trace.specs.Judged.{in_range, out_at, twin_at, verdict_of, judged}
@@ -48,13 +50,13 @@ unfolding twin_at
 twin_is c e =
     let r : (k : ℕ) × (k < count c) × (twin_at c k ≡ true) = some_at (count c) (twin_at c) e in
     let k = r.0 in
-    let both : (eq_z (px c k) (px c (k + 1)) ≡ true) × (eq_z (py c k) (py c (k + 1)) ≡ true) = and_true _ _ r.2 in
-    record { at = k; here = r.1; same_x = eq_z_true (px c k) (px c (k + 1)) both.0; same_y = eq_z_true (py c k) (py c (k + 1)) both.1 }
+    let both : (int_eq (px c k) (px c (k + 1)) ≡ true) × (int_eq (py c k) (py c (k + 1)) ≡ true) = and_true _ _ r.2 in
+    record { at = k; here = r.1; same_x = (Decides-int_eq (px c k) (px c (k + 1))).0 both.0; same_y = (Decides-int_eq (py c k) (py c (k + 1))).0 both.1 }
 
 apart_all : (c : List ℤ) → some (count c) (twin_at c) ≡ false → (k : ℕ) → k < count c → px c k ≡ px c (k + 1) → py c k ≡ py c (k + 1) → ⊥
 unfolding twin_at
 apart_all c e k h p q =
-    true≢false (sym (ap₂ ◌&&◌ (eq_eq_z (px c k) (px c (k + 1)) p) (eq_eq_z (py c k) (py c (k + 1)) q)) ∙ some_none (count c) (twin_at c) e k h)
+    true≢false (sym (ap₂ ◌&&◌ ((Decides-int_eq (px c k) (px c (k + 1))).1 p) ((Decides-int_eq (py c k) (py c (k + 1))).1 q)) ∙ some_none (count c) (twin_at c) e k h)
 
 -- ---- the cases, one by one
 
@@ -72,22 +74,22 @@ abbrev IsTurn : List ℤ → Type 0
 IsTurn c = twice_area c ≤ℤ pos 0
 
 module _ {c : List ℤ} where
-  shape : IsShape c → Given c (Unfit Shape)
+  shape : IsShape c → Given c (Err Shape)
   shape s = unfit (inl (refl, s))
 
-  few : ¬ IsShape c → IsFew c → Given c (Unfit Few)
+  few : ¬ IsShape c → IsFew c → Given c (Err Few)
   few ns f = unfit (inr (not_due ns, inl (refl, f)))
 
-  pub many : ¬ IsShape c → ¬ IsFew c → IsMany c → Given c (Unfit Many)
+  pub many : ¬ IsShape c → ¬ IsFew c → IsMany c → Given c (Err Many)
   many ns nf m = unfit (inr (not_due ns, inr (not_due nf, inl (refl, m))))
 
-  range : ¬ IsShape c → ¬ IsFew c → ¬ IsMany c → IsRange c → Given c (Unfit Range)
+  range : ¬ IsShape c → ¬ IsFew c → ¬ IsMany c → IsRange c → Given c (Err Range)
   range ns nf nm r = unfit (inr (not_due ns, inr (not_due nf, inr (not_due nm, inl (refl, r)))))
 
-  twin : ¬ IsShape c → ¬ IsFew c → ¬ IsMany c → ¬ IsRange c → IsTwin c → Given c (Unfit Twin)
+  twin : ¬ IsShape c → ¬ IsFew c → ¬ IsMany c → ¬ IsRange c → IsTwin c → Given c (Err Twin)
   twin ns nf nm nr w = unfit (inr (not_due ns, inr (not_due nf, inr (not_due nm, inr (not_due nr, inl (refl, w))))))
 
-  turn : ¬ IsShape c → ¬ IsFew c → ¬ IsMany c → ¬ IsRange c → ¬ IsTwin c → IsTurn c → Given c (Unfit Turn)
+  turn : ¬ IsShape c → ¬ IsFew c → ¬ IsMany c → ¬ IsRange c → ¬ IsTwin c → IsTurn c → Given c (Err Turn)
   turn ns nf nm nr nw t = unfit (inr (not_due ns, inr (not_due nf, inr (not_due nm, inr (not_due nr, inr (not_due nw, inl (refl, t)))))))
 
 -- ---- from the computation to 01's cases
@@ -100,7 +102,7 @@ verdict_given c ns ev nf en nm le =
     go (some (length c) (out_at c)) refl (some (count c) (twin_at c)) refl (le_z (twice_area c) (pos 0)) refl
   where
     go : (o : Bool) → some (length c) (out_at c) ≡ o → (w : Bool) → some (count c) (twin_at c) ≡ w → (t : Bool) → le_z (twice_area c) (pos 0) ≡ t
-        → Given c (cond o (Unfit Range) (cond w (Unfit Twin) (cond t (Unfit Turn) (Fit (twice_area c) (count c)))))
+        → Given c (cond o (Err Range) (cond w (Err Twin) (cond t (Err Turn) (fit_of (twice_area c) (count c)))))
     go true o w _ t _ = range ns nf nm (out_range c o)
     go false o true w t _ = twin ns nf nm (λ r. r.outside (in_all c o r.at r.here)) (twin_is c w)
     go false o false w true t =
@@ -124,7 +126,7 @@ judged_given c = go (eqb (length c % 2) 1) refl (ltb (count c) 3) refl (ltb 250 
     even_of n h = omega arith
 
     go : (s : Bool) → eqb (length c % 2) 1 ≡ s → (f : Bool) → ltb (count c) 3 ≡ f → (m : Bool) → ltb 250 (count c) ≡ m
-        → Given c (cond s (Unfit Shape) (cond f (Unfit Few) (cond m (Unfit Many)
+        → Given c (cond s (Err Shape) (cond f (Err Few) (cond m (Err Many)
         (verdict_of (some (length c) (out_at c)) (some (count c) (twin_at c)) (twice_area c) (count c)))))
     go true s f _ m _ = shape (eqb-true (length c % 2) 1 s)
     go false s true f m _ = few (λ r. eqb-false (length c % 2) 1 s (r)) (ltb-true (count c) 3 f)
@@ -138,8 +140,11 @@ judged_given c = go (eqb (length c % 2) 1) refl (ltb (count c) 3) refl (ltb 250 
 
 -- ---- from 01's cases to the computation
 
-named : {f g : Fault} → at f 0 ≡ at g 0 → Unfit f ≡ Unfit g
-named e = ap (λ (r : Refusal). Unfit r.fault) e
+abbrev unfit_as : Fault → Judgement
+unfit_as f = Err f
+
+named : {f g : Fault} → at f 0 ≡ at g 0 → unfit_as f ≡ unfit_as g
+named e = ap (λ (r : Refusal). unfit_as r.fault) e
 
 no_shape_lem : (c : List ℤ) → ¬ IsShape c → eqb (length c % 2) 1 ≡ false
 no_shape_lem c n = ne_eqb (length c % 2) 1 (λ e. n e)
@@ -166,7 +171,7 @@ twin_yes : {c : List ℤ} → IsTwin c → some (count c) (twin_at c) ≡ true
 unfolding twin_at
 twin_yes {c} r =
     some_yes (count c) (twin_at c) r.at r.here
-    (ap₂ ◌&&◌ (eq_eq_z (px c r.at) (px c (r.at + 1)) r.same_x) (eq_eq_z (py c r.at) (py c (r.at + 1)) r.same_y))
+    (ap₂ ◌&&◌ ((Decides-int_eq (px c r.at) (px c (r.at + 1))).1 r.same_x) ((Decides-int_eq (py c r.at) (py c (r.at + 1))).1 r.same_y))
 
 -- an accepted trace has none of the faults
 pub record Faultless (c : List ℤ) : Type 0 where
@@ -192,7 +197,7 @@ absent : {f : Fault} {P : Type 0} → Open (due f 0 P) → ¬ P
 absent {f} o x = o (at f 0) (refl, x)
 
 -- the fault of the first gate that stops is the one that is computed
-stopped_judged : {c : List ℤ} (f : Fault) → Stopped (trace_gates c) (at f 0) → Unfit f ≡ judged c
+stopped_judged : {c : List ℤ} (f : Fault) → Stopped (trace_gates c) (at f 0) → Err f ≡ judged c
 unfolding judged verdict_of
 stopped_judged {c} f (inl x) = named x.0 ∙ rw (eq-eqb (length c % 2) 1 x.1)
 stopped_judged {c} f (inr (ns, inl x)) = named x.0 ∙ rw (no_shape_lem c (absent ns), lt-ltb (count c) 3 x.1)
@@ -228,22 +233,30 @@ pub as_computed : {c : List ℤ} {r : Judgement} → r ≡ judged c → Given c 
 as_computed e = given_of (sym e)
 
 -- a fault is given exactly when its gate is the first that stops
-pub unfit_exactly : (c : List ℤ) (f : Fault) → Given c (Unfit f) ↔ Stopped (trace_gates c) (at f 0)
+pub unfit_exactly : (c : List ℤ) (f : Fault) → Given c (Err f) ↔ Stopped (trace_gates c) (at f 0)
 unfit_exactly c f = (take, unfit)
   where
-    take : Given c (Unfit f) → Stopped (trace_gates c) (at f 0)
+    take : Given c (Err f) → Stopped (trace_gates c) (at f 0)
     take (unfit s) = s
 
 -- every trace is given one
 pub given_some : (c : List ℤ) → (r : Judgement) × Given c r
 given_some c = (judged c, judged_given c)
 
+abbrev area_in : Judgement → ℤ
+area_in (Ok f) = f.area
+area_in (Err f) = pos 0
+
+abbrev count_in : Judgement → ℕ
+count_in (Ok f) = f.count
+count_in (Err f) = 0
+
 -- "fit" exactly when none holds, with that area and count
 pub fit_exactly : (c : List ℤ) (area : ℤ) (n : ℕ)
-    → (judged c ≡ Fit area n) ↔ (Accepted c × (area ≡ twice_area c) × (n ≡ count c))
+    → (judged c ≡ fit_of area n) ↔ (Accepted c × (area ≡ twice_area c) × (n ≡ count c))
 fit_exactly c area n =
-    (λ e. take (judged_given c) (sym e), λ s. sym (given_judged (fit s.0)) ∙ ap₂ Fit (sym s.1) (sym s.2))
+    (λ e. take (judged_given c) (sym e), λ s. sym (given_judged (fit s.0)) ∙ ap₂ fit_of (sym s.1) (sym s.2))
   where
-    take : {r : Judgement} → Given c r → Fit area n ≡ r → Accepted c × (area ≡ twice_area c) × (n ≡ count c)
+    take : {r : Judgement} → Given c r → fit_of area n ≡ r → Accepted c × (area ≡ twice_area c) × (n ≡ count c)
     take (unfit {f} s) e = absurd (let z : ◌≡◌ {A = ℕ} 0 1 = cc in omega arith)
-    take (fit a) e = (a, cc, cc)
+    take (fit a) e = (a, ap (λ (j : Judgement). area_in j) e, ap (λ (j : Judgement). count_in j) e)

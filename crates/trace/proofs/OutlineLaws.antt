@@ -1,21 +1,25 @@
--- The outline of a list, number by number: what is read of it is bounded, of an accepted trace it is the trace, and two outlines of one list
+-- The outline of a list, corner by corner: what is read of it is bounded, of an accepted trace it is the trace, and two outlines of one list
 -- coincide. Assumes nothing.
 use mathlib.Core.Path.{◌≡◌, refl, sym, ap, ap₂, ◌∙◌, subst}
 use mathlib.Core.Bool.{Bool, true, false, cond}
 use mathlib.Core.List.{List, map}
+use mathlib.Core.Logic.{◌⊎◌, inl, inr}
 use Prim.Native.Nat.{ℕ, zero, suc, ◌+◌, ◌*◌, ◌/◌, ◌%◌, ◌≤◌, ◌<◌, min}
 use native.Mathlib.Decide.{ℕ_discrete, dec_le}
 use native.Mathlib.Omega.{arith}
+use lib.Dec.{ltb}
+use borrow.Author.Tests.{lt-ltb, le-ltb}
 use lib.IntN.{ℤ, pos, ◌-ℤ◌}
 use lib.ListN.{length, get_or, take, set, replicate, length-set, length-map, get_or-map, get_or-eq_default}
 use lib.Seq.{get_or-set_same, get_or-set_other, get_or-take, length-take-le, take_all, ext_get_or}
 use Rattle.whole.specs.Between.{Within}
-use Rattle.whole.proofs.Bounds.{zero_within}
+use Rattle.whole.proofs.Bounds.{zero_within, between_sub}
+use Rattle.trace.specs.declared.outline.Corner.{Corner}
 use Rattle.trace.specs.declared.outline.Outline.{Outline}
 use Rattle.trace.specs.Points.{count, px, py}
 use Rattle.trace.specs.Judged.{in_range}
 use Rattle.trace.specs.Faults.{Accepted}
-use Rattle.trace.specs.Outline.{fair, fairly, Follows, Outlined, Ranged, Wrapped}
+use Rattle.trace.specs.Outline.{fair, fairly, cornered, no_corner, of_lists, corner, Follows, Outlined, Ranged, CornerWithin}
 use Rattle.trace.proofs.PointLaws.{px_at, py_at, px_round, py_round, range_within, within_range, accepted_x, accepted_y}
 
 -- ---- what is read
@@ -95,149 +99,222 @@ fairly_same {c} a =
     let in_c : i < length c = omega (arith, length-map c fair) in
     get_or_fair c i ∙ fair_same (get_or c i (pos 0)) (a.in_range i in_c))
 
--- ---- number by number
+-- a corner by its four numbers
+of_four : {p q : Corner} → p.x ≡ q.x → p.y ≡ q.y → p.dx ≡ q.dx → p.dy ≡ q.dy → p ≡ q
+of_four {p} {q} a b d e =
+    ap₂ (λ (x y : ℤ). of x y p.dx p.dy) a b ∙ ap₂ (λ (dx dy : ℤ). of q.x q.y dx dy) d e
+  where
+    of : ℤ → ℤ → ℤ → ℤ → Corner
+    of x y dx dy = record { x = x; y = y; dx = dx; dy = dy }
+
+-- ---- corner by corner
 
 zeros_at : (n i : ℕ) → get_or (replicate n (pos 0)) i (pos 0) ≡ pos 0
 zeros_at zero i = refl
 zeros_at (suc n) zero = refl
 zeros_at (suc n) (suc i) = zeros_at n i
 
--- the first k of m numbers are those of f, zeros behind
-pub record CopySo (f : ℕ → ℤ) (m k : ℕ) (r : List ℤ) : Type 0 where
-  pub inside : k ≤ m
-  pub so : Follows f k r
+abbrev zeros : List ℤ
+zeros = replicate 251 (pos 0)
 
-pub copy_begun : (f : ℕ → ℤ) (m : ℕ) → CopySo f m 0 (replicate 251 (pos 0))
-copy_begun f m = record {
-  inside = omega arith;
-  so = record { long = refl; done = λ i h. absurd (none i h); zeros = λ i h. zeros_at 251 i };
+pub begun : (f : ℕ → Corner) → Follows f 0 zeros zeros zeros zeros
+begun f = record {
+  long_x = refl;
+  long_y = refl;
+  long_dx = refl;
+  long_dy = refl;
+  done = λ i h. absurd (none i h);
+  behind = λ i h. of_four (zeros_at 251 i) (zeros_at 251 i) (zeros_at 251 i) (zeros_at 251 i);
 }
   where
     none : (i : ℕ) → i < 0 → ⊥
     none i h = omega arith
 
-pub copy_more : (f : ℕ → ℤ) (m k : ℕ) (r : List ℤ) (v : ℤ) → m ≤ 250 → CopySo f m k r → k < m → v ≡ f k → CopySo f m (k + 1) (set r k v)
-copy_more f m k r v few s h e = record {
-  inside = omega arith;
-  so = record {
-    long = length-set r k v ∙ s.so.long;
-    done = λ i l. value i l (ℕ_discrete i k);
-    zeros = λ i l. get_or-set_other r k i v (pos 0) (λ q. omega arith) ∙ s.so.zeros i (omega arith);
-  };
+-- a corner put down
+module _ (x y dx dy : List ℤ) (k : ℕ) (v : Corner) where
+  put_here : length x ≡ 251 → length y ≡ 251 → length dx ≡ 251 → length dy ≡ 251 → k < 251
+      → of_lists (set x k v.x) (set y k v.y) (set dx k v.dx) (set dy k v.dy) k ≡ v
+  put_here a b d e h =
+      of_four (get_or-set_same x k v.x (pos 0) (omega (arith, a))) (get_or-set_same y k v.y (pos 0) (omega (arith, b)))
+      (get_or-set_same dx k v.dx (pos 0) (omega (arith, d))) (get_or-set_same dy k v.dy (pos 0) (omega (arith, e)))
+
+  put_other : (i : ℕ) → (i ≡ k → ⊥)
+      → of_lists (set x k v.x) (set y k v.y) (set dx k v.dx) (set dy k v.dy) i ≡ of_lists x y dx dy i
+  put_other i h =
+      of_four (get_or-set_other x k i v.x (pos 0) h) (get_or-set_other y k i v.y (pos 0) h)
+      (get_or-set_other dx k i v.dx (pos 0) h) (get_or-set_other dy k i v.dy (pos 0) h)
+
+pub one_more : {f : ℕ → Corner} {k : ℕ} {x y dx dy : List ℤ} (v : Corner) → Follows f k x y dx dy → k < 251 → v ≡ f k
+    → Follows f (suc k) (set x k v.x) (set y k v.y) (set dx k v.dx) (set dy k v.dy)
+one_more {f} {k} {x} {y} {dx} {dy} v s h e = record {
+  long_x = length-set x k v.x ∙ s.long_x;
+  long_y = length-set y k v.y ∙ s.long_y;
+  long_dx = length-set dx k v.dx ∙ s.long_dx;
+  long_dy = length-set dy k v.dy ∙ s.long_dy;
+  done = λ i l. value i l (ℕ_discrete i k);
+  behind = λ i l. put_other x y dx dy k v i (λ q. omega arith) ∙ s.behind i (omega arith);
 }
   where
-    value : (i : ℕ) → i < k + 1 → Dec (i ≡ k) → get_or (set r k v) i (pos 0) ≡ f i
+    value : (i : ℕ) → i < suc k → Dec (i ≡ k) → of_lists (set x k v.x) (set y k v.y) (set dx k v.dx) (set dy k v.dy) i ≡ f i
     value i l (yes q) =
-        ap (λ (t : ℕ). get_or (set r k v) t (pos 0)) q ∙ get_or-set_same r k v (pos 0) (omega (arith, s.so.long)) ∙ e ∙ ap f (sym q)
-    value i l (no q) = get_or-set_other r k i v (pos 0) q ∙ s.so.done i (omega arith)
+        ap (of_lists (set x k v.x) (set y k v.y) (set dx k v.dx) (set dy k v.dy)) q
+        ∙ put_here x y dx dy k v s.long_x s.long_y s.long_dx s.long_dy h ∙ e ∙ ap f (sym q)
+    value i l (no q) = put_other x y dx dy k v i q ∙ s.done i (omega arith)
 
-pub copy_done : {f : ℕ → ℤ} {m k : ℕ} {r : List ℤ} → m ≤ k → CopySo f m k r → Follows f m r
-copy_done {f} {m} {k} {r} h s = let all : k ≡ m = omega (arith, s.inside) in subst (λ (n : ℕ). Follows f n r) all s.so
-
-pub wrapped_done : (c : List ℤ) (m offset : ℕ) (r : List ℤ) (v : ℤ) → m ≤ 250 → Follows (λ i. fair (get_or c (2 * i + offset) (pos 0))) m r
-    → v ≡ get_or r 0 (pos 0) → Wrapped c m offset (set r m v)
-wrapped_done c m offset r v few s e = record {
-  long = length-set r m v ∙ s.long;
-  same = λ i l. get_or-set_other r m i v (pos 0) (λ q. omega arith) ∙ s.done i l;
-  again = last ∙ e ∙ sym (first (ℕ_discrete 0 m));
-  none = λ z. first (ℕ_discrete 0 m) ∙ s.zeros 0 (omega arith);
-  zeros = λ i l. get_or-set_other r m i v (pos 0) (λ q. omega arith) ∙ s.zeros i (omega arith);
+-- the first point again, whose segment is none
+pub once_again : {f : ℕ → Corner} {k : ℕ} {x y dx dy : List ℤ} (vx vy : ℤ) → Follows f k x y dx dy → k < 251
+    → record { x = vx; y = vy; dx = pos 0; dy = pos 0 } ≡ f k → Follows f (suc k) (set x k vx) (set y k vy) dx dy
+once_again {f} {k} {x} {y} {dx} {dy} vx vy s h e = record {
+  long_x = length-set x k vx ∙ s.long_x;
+  long_y = length-set y k vy ∙ s.long_y;
+  long_dx = s.long_dx;
+  long_dy = s.long_dy;
+  done = λ i l. value i l (ℕ_discrete i k);
+  behind = λ i l. other i (λ q. omega arith) ∙ s.behind i (omega arith);
 }
   where
-    last : get_or (set r m v) m (pos 0) ≡ v
-    last = get_or-set_same r m v (pos 0) (omega (arith, s.long))
+    other : (i : ℕ) → (i ≡ k → ⊥) → of_lists (set x k vx) (set y k vy) dx dy i ≡ of_lists x y dx dy i
+    other i q = of_four (get_or-set_other x k i vx (pos 0) q) (get_or-set_other y k i vy (pos 0) q) refl refl
 
-    -- the first number stays, also where it is written again
-    first : Dec (0 ≡ m) → get_or (set r m v) 0 (pos 0) ≡ get_or r 0 (pos 0)
-    first (yes q) = ap (get_or (set r m v) 0) refl ∙ ap (λ (t : ℕ). get_or (set r m v) t (pos 0)) q ∙ last ∙ e
-    first (no q) = get_or-set_other r m 0 v (pos 0) q
+    none : of_lists x y dx dy k ≡ no_corner
+    none = s.behind k (omega arith)
+
+    value : (i : ℕ) → i < suc k → Dec (i ≡ k) → of_lists (set x k vx) (set y k vy) dx dy i ≡ f i
+    value i l (yes q) =
+        ap (of_lists (set x k vx) (set y k vy) dx dy) q
+        ∙ of_four (get_or-set_same x k vx (pos 0) (omega (arith, s.long_x))) (get_or-set_same y k vy (pos 0) (omega (arith, s.long_y)))
+        (ap (λ (q : Corner). q.dx) none) (ap (λ (q : Corner). q.dy) none)
+        ∙ e ∙ ap f (sym q)
+    value i l (no q) = other i q ∙ s.done i (omega arith)
+
+pub as_many : {f : ℕ → Corner} {m n : ℕ} {x y dx dy : List ℤ} → m ≡ n → Follows f m x y dx dy → Follows f n x y dx dy
+as_many {f} {x = x} {y} {dx} {dy} e s = subst (λ (k : ℕ). Follows f k x y dx dy) e s
 
 -- ---- points and segments
 
 module _ (c : List ℤ) {m : ℕ} (n : m ≡ min (length c / 2) 250) where
-  -- a wrapped coordinate follows f, which has the list's numbers below m and runs round
-  follows : {offset : ℕ} {r : List ℤ} (f : ℕ → ℤ) → Wrapped c m offset r
-      → ((k : ℕ) → k < m → f k ≡ fair (get_or c (2 * k + offset) (pos 0))) → f m ≡ f 0 → (m ≡ 0 → f 0 ≡ pos 0)
-      → Follows f (suc (count (fairly c))) r
-  follows {r = r} f w inner round empty = record {
-    long = w.long;
-    done = λ k h. at k (omega (arith, fairly_count c)) (ℕ_discrete k m);
-    zeros = λ k h. w.zeros k (omega (arith, fairly_count c));
-  }
+  -- a number that is read is the point's
+  pub reads_x : (k : ℕ) → k < m → fair (get_or c (2 * k) (pos 0)) ≡ px (fairly c) k
+  reads_x k h = sym (px_at (fairly c) k (omega (arith, fairly_count c)) ∙ fairly_at c (2 * k) (omega arith))
+
+  pub reads_y : (k : ℕ) → k < m → fair (get_or c (2 * k + 1) (pos 0)) ≡ py (fairly c) k
+  reads_y k h = sym (py_at (fairly c) k (omega (arith, fairly_count c)) ∙ fairly_at c (2 * k + 1) (omega arith))
+
+  pub round_x : px (fairly c) m ≡ px (fairly c) 0
+  round_x = px_round (fairly c) m (fairly_count c ∙ sym n)
+
+  pub round_y : py (fairly c) m ≡ py (fairly c) 0
+  round_y = py_round (fairly c) m (fairly_count c ∙ sym n)
+
+  -- the number of the next point, where behind the last comes the first
+  abbrev pub IsNext : ℕ → ℕ → Type 0
+  IsNext k next = ((k + 1 < m) × (next ≡ k + 1)) ⊎ ((m ≤ k + 1) × (next ≡ 0))
+
+  pub next_below : {k next : ℕ} → k < m → IsNext k next → next < m
+  next_below h (inl x) = omega (arith, x.1, x.0)
+  next_below h (inr x) = omega (arith, x.1)
+
+  pub next_x : {k next : ℕ} → k < m → IsNext k next → fair (get_or c (2 * next) (pos 0)) ≡ px (fairly c) (k + 1)
+  next_x {k} {next} h i = reads_x next (next_below h i) ∙ go i
     where
-      start : Dec (m ≡ 0) → get_or r 0 (pos 0) ≡ f 0
-      start (yes z) = w.none z ∙ sym (empty z)
-      start (no z) = w.same 0 (omega arith) ∙ sym (inner 0 (omega arith))
+      go : IsNext k next → px (fairly c) next ≡ px (fairly c) (k + 1)
+      go (inl x) = ap (px (fairly c)) x.1
+      go (inr x) = ap (px (fairly c)) x.1 ∙ sym round_x ∙ ap (px (fairly c)) (omega arith)
 
-      at : (k : ℕ) → k ≤ m → Dec (k ≡ m) → get_or r k (pos 0) ≡ f k
-      at k h (yes e) = ap (λ (t : ℕ). get_or r t (pos 0)) e ∙ w.again ∙ start (ℕ_discrete m 0) ∙ sym round ∙ ap f (sym e)
-      at k h (no e) = w.same k (omega arith) ∙ sym (inner k (omega arith))
+  pub next_y : {k next : ℕ} → k < m → IsNext k next → fair (get_or c (2 * next + 1) (pos 0)) ≡ py (fairly c) (k + 1)
+  next_y {k} {next} h i = reads_y next (next_below h i) ∙ go i
+    where
+      go : IsNext k next → py (fairly c) next ≡ py (fairly c) (k + 1)
+      go (inl x) = ap (py (fairly c)) x.1
+      go (inr x) = ap (py (fairly c)) x.1 ∙ sym round_y ∙ ap (py (fairly c)) (omega arith)
 
-  pub follows_x : {r : List ℤ} → Wrapped c m 0 r → Follows (px (fairly c)) (suc (count (fairly c))) r
-  follows_x w =
-      follows (px (fairly c)) w
-      (λ k h. px_at (fairly c) k (omega (arith, fairly_count c)) ∙ fairly_at c (2 * k) (omega arith)
-      ∙ ap (λ (t : ℕ). fair (get_or c t (pos 0))) (omega arith))
-      (px_round (fairly c) m (fairly_count c ∙ sym n)) (λ z. none_x c (sym n ∙ z) 0)
+  -- a corner of two points, one behind the other
+  pub corner_is : {k : ℕ} {p : Corner} → k < m → p.x ≡ px (fairly c) k → p.y ≡ py (fairly c) k
+      → p.dx ≡ px (fairly c) (k + 1) -ℤ px (fairly c) k → p.dy ≡ py (fairly c) (k + 1) -ℤ py (fairly c) k → p ≡ cornered (fairly c) k
+  unfolding cornered
+  corner_is {k} {p} h ex ey ed ee =
+      let in_c : ltb k (count (fairly c)) ≡ true = lt-ltb k (count (fairly c)) (omega (arith, fairly_count c)) in
+      rw in_c (of_four ex ey ed ee)
 
-  pub follows_y : {r : List ℤ} → Wrapped c m 1 r → Follows (py (fairly c)) (suc (count (fairly c))) r
-  follows_y w =
-      follows (py (fairly c)) w
-      (λ k h. py_at (fairly c) k (omega (arith, fairly_count c)) ∙ fairly_at c (2 * k + 1) (omega arith))
-      (py_round (fairly c) m (fairly_count c ∙ sym n)) (λ z. none_y c (sym n ∙ z) 0)
+  -- the first point again
+  pub closing_is : {x y dx dy : List ℤ} {vx vy : ℤ} → Follows (cornered (fairly c)) m x y dx dy → vx ≡ get_or x 0 (pos 0) → vy ≡ get_or y 0 (pos 0)
+      → record { x = vx; y = vy; dx = pos 0; dy = pos 0 } ≡ cornered (fairly c) m
+  unfolding cornered
+  closing_is {x} {y} s ex ey =
+      let at_end : ltb m (count (fairly c)) ≡ false = le-ltb m (count (fairly c)) (omega (arith, fairly_count c)) in
+      rw at_end (of_four (ex ∙ first_x (ℕ_discrete m 0)) (ey ∙ first_y (ℕ_discrete m 0)) refl refl)
+    where
+      first_x : Dec (m ≡ 0) → get_or x 0 (pos 0) ≡ px (fairly c) m
+      first_x (yes z) = ap (λ (q : Corner). q.x) (s.behind 0 (omega arith)) ∙ sym (none_x c (sym n ∙ z) m)
+      first_x (no z) = ap (λ (q : Corner). q.x) (s.done 0 (omega arith)) ∙ sym round_x
 
-  -- a segment is the difference of two points
-  pub segments : {f : ℕ → ℤ} {r d : List ℤ} → Follows f (suc (count (fairly c))) r
-      → Follows (λ k. get_or r (k + 1) (pos 0) -ℤ get_or r k (pos 0)) m d → Follows (λ k. f (k + 1) -ℤ f k) (count (fairly c)) d
-  segments s e = record {
-    long = e.long;
-    done = λ k h. e.done k (omega (arith, fairly_count c))
-        ∙ ap₂ ◌-ℤ◌ (s.done (k + 1) (omega (arith, fairly_count c))) (s.done k (omega (arith, fairly_count c)));
-    zeros = λ k h. e.zeros k (omega (arith, fairly_count c));
-  }
+      first_y : Dec (m ≡ 0) → get_or y 0 (pos 0) ≡ py (fairly c) m
+      first_y (yes z) = ap (λ (q : Corner). q.y) (s.behind 0 (omega arith)) ∙ sym (none_y c (sym n ∙ z) m)
+      first_y (no z) = ap (λ (q : Corner). q.y) (s.done 0 (omega arith)) ∙ sym round_y
+
+module _ {c : List ℤ} {p : Outline} (o : Outlined c p) where
+  -- what an outline's corners hold
+  pub outlined_x : (k : ℕ) → k ≤ count c → (corner p k).x ≡ px c k
+  unfolding cornered
+  outlined_x k h = ap (λ (q : Corner). q.x) (o.corners.done k (omega arith))
+
+  pub outlined_y : (k : ℕ) → k ≤ count c → (corner p k).y ≡ py c k
+  unfolding cornered
+  outlined_y k h = ap (λ (q : Corner). q.y) (o.corners.done k (omega arith))
+
+  pub outlined_dx : (k : ℕ) → k < count c → (corner p k).dx ≡ px c (k + 1) -ℤ px c k
+  unfolding cornered
+  outlined_dx k h =
+      ap (λ (q : Corner). q.dx) (o.corners.done k (omega arith))
+      ∙ ap (λ (t : Bool). cond t (px c (k + 1) -ℤ px c k) (pos 0)) (lt-ltb k (count c) h)
+
+  pub outlined_dy : (k : ℕ) → k < count c → (corner p k).dy ≡ py c (k + 1) -ℤ py c k
+  unfolding cornered
+  outlined_dy k h =
+      ap (λ (q : Corner). q.dy) (o.corners.done k (omega arith))
+      ∙ ap (λ (t : Bool). cond t (py c (k + 1) -ℤ py c k) (pos 0)) (lt-ltb k (count c) h)
 
 -- ---- bounds
 
-pub follows_within : {f : ℕ → ℤ} {n b : ℕ} {r : List ℤ} → Follows f n r → ((k : ℕ) → Within b (f k)) → (k : ℕ) → Within b (get_or r k (pos 0))
-follows_within {n = n} {b} {r} s w k = go (dec_le (suc k) n)
+cornered_within : {c : List ℤ} → Ranged c → (k : ℕ) → CornerWithin (cornered c k)
+unfolding cornered
+cornered_within {c} w k = record { x = w.x k; y = w.y k; dx = go w.x (ltb k (count c)); dy = go w.y (ltb k (count c)) }
   where
-    go : Dec (suc k ≤ n) → Within b (get_or r k (pos 0))
-    go (yes h) = subst (Within b) (sym (s.done k h)) (w k)
-    go (no h) = subst (Within b) (sym (s.zeros k (omega arith))) (zero_within b)
+    go : {f : ℕ → ℤ} → ((k : ℕ) → Within 100000 (f k)) → (t : Bool) → Within 200000 (cond t (f (k + 1) -ℤ f k) (pos 0))
+    go v true = between_sub (v (k + 1)) (v k)
+    go v false = zero_within 200000
 
--- the numbers of a wrapped coordinate, as `differences` asks
-pub wrapped_within : {c : List ℤ} {m offset : ℕ} {r : List ℤ} → Wrapped c m offset r → (k : ℕ) → Within 100000 (get_or r k (pos 0))
-wrapped_within {c} {m} {offset} {r} w k = go k (dec_le (suc k) m) (ℕ_discrete k m)
+none_within : CornerWithin no_corner
+none_within = record { x = zero_within 100000; y = zero_within 100000; dx = zero_within 200000; dy = zero_within 200000 }
+
+-- what an outline holds is bounded everywhere
+pub corner_within : {c : List ℤ} {p : Outline} → Ranged c → Outlined c p → (k : ℕ) → CornerWithin (corner p k)
+corner_within {c} {p} w o k = go (dec_le k (count c))
   where
-    go : (k : ℕ) → Dec (suc k ≤ m) → Dec (k ≡ m) → Within 100000 (get_or r k (pos 0))
-    go k (yes h) q = subst (Within 100000) (sym (w.same k h)) (fair_within (get_or c (2 * k + offset) (pos 0)))
-    go k (no h) (no q) = subst (Within 100000) (sym (w.zeros k (omega arith))) (zero_within 100000)
-    go k (no h) (yes q) = subst (Within 100000) (sym (ap (λ (t : ℕ). get_or r t (pos 0)) q ∙ w.again)) (start (ℕ_discrete m 0))
-      where
-        start : Dec (m ≡ 0) → Within 100000 (get_or r 0 (pos 0))
-        start (yes z) = subst (Within 100000) (sym (w.none z)) (zero_within 100000)
-        start (no z) = subst (Within 100000) (sym (w.same 0 (omega arith))) (fair_within (get_or c (0 + offset) (pos 0)))
+    go : Dec (k ≤ count c) → CornerWithin (corner p k)
+    go (yes h) = subst CornerWithin (sym (o.corners.done k (omega arith))) (cornered_within w k)
+    go (no h) = subst CornerWithin (sym (o.corners.behind k (omega arith))) none_within
 
 -- ---- one outline
 
-follows_one : {f : ℕ → ℤ} {n : ℕ} {r s : List ℤ} → Follows f n r → Follows f n s → r ≡ s
-follows_one {f} {n} {r} {s} p q = ext_get_or (pos 0) r s (p.long ∙ sym q.long) (λ k h. at k (dec_le (suc k) n))
-  where
-    at : (k : ℕ) → Dec (suc k ≤ n) → get_or r k (pos 0) ≡ get_or s k (pos 0)
-    at k (yes h) = p.done k h ∙ sym (q.done k h)
-    at k (no h) = p.zeros k (omega arith) ∙ sym (q.zeros k (omega arith))
+module _ {c : List ℤ} {p q : Outline} (o : Outlined c p) (u : Outlined c q) where
+  same_corner : (k : ℕ) → corner p k ≡ corner q k
+  same_corner k = go (dec_le k (count c))
+    where
+      go : Dec (k ≤ count c) → corner p k ≡ corner q k
+      go (yes h) = o.corners.done k (omega arith) ∙ sym (u.corners.done k (omega arith))
+      go (no h) = o.corners.behind k (omega arith) ∙ sym (u.corners.behind k (omega arith))
 
--- two outcomes that `outline_of`'s contract allows coincide
-pub outline_unique : {c : List ℤ} {p q : Outline} → Outlined c p → Outlined c q → p ≡ q
-outline_unique {p = p} {q} o u =
-    go (follows_one o.x u.x) (follows_one o.y u.y) (follows_one o.dx u.dx) (follows_one o.dy u.dy)
-    (o.counted ∙ sym u.counted)
-  where
-    of : List ℤ → List ℤ → List ℤ → List ℤ → ℕ → Outline
-    of x y dx dy n = record { x = x; y = y; dx = dx; dy = dy; count = n }
-
-    go : p.x ≡ q.x → p.y ≡ q.y → p.dx ≡ q.dx → p.dy ≡ q.dy → p.count ≡ q.count → p ≡ q
-    go a b d e n =
-        ap (λ (l : List ℤ). of l p.y p.dx p.dy p.count) a ∙ ap (λ (l : List ℤ). of q.x l p.dx p.dy p.count) b
-        ∙ ap (λ (l : List ℤ). of q.x q.y l p.dy p.count) d ∙ ap (λ (l : List ℤ). of q.x q.y q.dx l p.count) e
-        ∙ ap (of q.x q.y q.dx q.dy) n
+  -- two outcomes that `outline_of`'s contract allows coincide
+  pub outline_unique : p ≡ q
+  outline_unique =
+      ap₂ (λ (x y : List ℤ). of x y p.dx p.dy p.count)
+      (ext_get_or (pos 0) p.x q.x (o.corners.long_x ∙ sym u.corners.long_x) (λ k h. ap (λ (v : Corner). v.x) (same_corner k)))
+      (ext_get_or (pos 0) p.y q.y (o.corners.long_y ∙ sym u.corners.long_y) (λ k h. ap (λ (v : Corner). v.y) (same_corner k)))
+      ∙ ap₂ (λ (dx dy : List ℤ). of q.x q.y dx dy p.count)
+      (ext_get_or (pos 0) p.dx q.dx (o.corners.long_dx ∙ sym u.corners.long_dx) (λ k h. ap (λ (v : Corner). v.dx) (same_corner k)))
+      (ext_get_or (pos 0) p.dy q.dy (o.corners.long_dy ∙ sym u.corners.long_dy) (λ k h. ap (λ (v : Corner). v.dy) (same_corner k)))
+      ∙ ap (of q.x q.y q.dx q.dy) (o.counted ∙ sym u.counted)
+    where
+      of : List ℤ → List ℤ → List ℤ → List ℤ → ℕ → Outline
+      of x y dx dy n = record { x = x; y = y; dx = dx; dy = dy; count = n }

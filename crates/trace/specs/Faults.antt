@@ -1,11 +1,10 @@
 -- 01, "What comes back": when each of the six faults of a trace is given.
-use Rattle.std.specs.Prelude.{◌≡◌, List, [], ◌∷◌, ℕ, ◌+◌, ◌%◌, ◌≤◌, ◌<◌, length, get_or, ℤ, pos, ◌≤ℤ◌, ◌<ℤ◌}
+use Rattle.std.specs.Prelude.{◌≡◌, List, [], ◌∷◌, ℕ, ◌+◌, ◌%◌, ◌≤◌, ◌<◌, length, get_or, ℤ, pos, ◌≤ℤ◌, ◌<ℤ◌, Err}
 use Rattle.whole.specs.Between.{Within}
 use Rattle.fault.specs.declared.Fault.{Fault}
 use Rattle.fault.specs.Gates.{at, Gate, due, Stopped}
 use Rattle.fault.specs.declared.Fault.TheVariants.{Shape, Few, Many, Range, Twin, Turn}
-use Rattle.trace.specs.declared.Judgement.{Judgement}
-use Rattle.trace.specs.declared.Judgement.TheVariants.{Fit, Unfit}
+use Rattle.trace.specs.Judgement.{Judgement, fit_of}
 use Rattle.trace.specs.Points.{count, px, py, twice_area}
 
 -- 4: a coordinate outside its range, "from -100,000 to 100,000"
@@ -40,5 +39,5 @@ trace_gates c =
 
 -- each fault is given exactly when it is there and no earlier one is, and "fit" when none is
 pub data Given (c : List ℤ) : Judgement → Type 0 where
-  unfit : {f : Fault} → Stopped (trace_gates c) (at f 0) → Given c (Unfit f)
-  fit : Accepted c → Given c (Fit (twice_area c) (count c))
+  unfit : {f : Fault} → Stopped (trace_gates c) (at f 0) → Given c (Err f)
+  fit : Accepted c → Given c (fit_of (twice_area c) (count c))

@@ -1,6 +1,8 @@
--- 01, "Indices run round: A_m is A_0": a trace's points with the first written again at the end, and its segments, in arrays of 251 numbers.
-use Rattle.std.specs.Prelude.{◌≡◌, cond, List, map, ℕ, suc, ◌+◌, ◌*◌, ◌/◌, ◌≤◌, ◌<◌, min, ℤ, pos, ◌-ℤ◌, length, get_or, take}
+-- 01, "Indices run round: A_m is A_0": a trace's points with the first written again at the end, each with its segment, in arrays of 251
+-- numbers.
+use Rattle.std.specs.Prelude.{◌≡◌, cond, List, map, ℕ, suc, ◌+◌, ◌*◌, ◌/◌, ◌≤◌, ◌<◌, min, ltb, ℤ, pos, ◌-ℤ◌, length, get_or, take}
 use Rattle.whole.specs.Between.{Within}
+use Rattle.trace.specs.declared.outline.Corner.{Corner}
 use Rattle.trace.specs.declared.outline.Outline.{Outline}
 use Rattle.trace.specs.Points.{count, px, py}
 use Rattle.trace.specs.Judged.{in_range}
@@ -12,17 +14,36 @@ fair z = cond (in_range z) z (pos 0)
 unfoldable pub fairly : List ℤ → List ℤ
 fairly c = map fair (take (2 * min (length c / 2) 250) c)
 
--- 251 numbers: f 0, f 1, .. f (n-1), then zeros
-pub record Follows (f : ℕ → ℤ) (n : ℕ) (r : List ℤ) : Type 0 where
-  pub long : length r ≡ 251
-  pub done : (k : ℕ) → k < n → get_or r k (pos 0) ≡ f k
-  pub zeros : (k : ℕ) → n ≤ k → get_or r k (pos 0) ≡ pos 0
+-- point k, and the segment to the next; the first point, written again at the end, has none
+unfoldable pub cornered : List ℤ → ℕ → Corner
+cornered c k = record {
+  x = px c k;
+  y = py c k;
+  dx = cond (ltb k (count c)) (px c (k + 1) -ℤ px c k) (pos 0);
+  dy = cond (ltb k (count c)) (py c (k + 1) -ℤ py c k) (pos 0);
+}
+
+abbrev pub no_corner : Corner
+no_corner = record { x = pos 0; y = pos 0; dx = pos 0; dy = pos 0 }
+
+-- corner k of four lists of numbers
+abbrev pub of_lists : List ℤ → List ℤ → List ℤ → List ℤ → ℕ → Corner
+of_lists x y dx dy k = record { x = get_or x k (pos 0); y = get_or y k (pos 0); dx = get_or dx k (pos 0); dy = get_or dy k (pos 0) }
+
+abbrev pub corner : Outline → ℕ → Corner
+corner p k = of_lists p.x p.y p.dx p.dy k
+
+-- four lists of 251 numbers, whose corners are f 0, f 1, .. f (n-1), and none behind
+pub record Follows (f : ℕ → Corner) (n : ℕ) (x y dx dy : List ℤ) : Type 0 where
+  pub long_x : length x ≡ 251
+  pub long_y : length y ≡ 251
+  pub long_dx : length dx ≡ 251
+  pub long_dy : length dy ≡ 251
+  pub done : (k : ℕ) → k < n → of_lists x y dx dy k ≡ f k
+  pub behind : (k : ℕ) → n ≤ k → of_lists x y dx dy k ≡ no_corner
 
 pub record Outlined (c : List ℤ) (p : Outline) : Type 0 where
-  pub x : Follows (px c) (suc (count c)) p.x
-  pub y : Follows (py c) (suc (count c)) p.y
-  pub dx : Follows (λ k. px c (k + 1) -ℤ px c k) (count c) p.dx
-  pub dy : Follows (λ k. py c (k + 1) -ℤ py c k) (count c) p.dy
+  pub corners : Follows (cornered c) (suc (count c)) p.x p.y p.dx p.dy
   pub counted : p.count ≡ count c
 
 -- Inner: every point of c is in range
@@ -30,10 +51,9 @@ pub record Ranged (c : List ℤ) : Type 0 where
   pub x : (k : ℕ) → Within 100000 (px c k)
   pub y : (k : ℕ) → Within 100000 (py c k)
 
--- Inner: the first m numbers of a coordinate (offset 0: x, 1: y), the first of them again, zeros
-pub record Wrapped (c : List ℤ) (m offset : ℕ) (r : List ℤ) : Type 0 where
-  pub long : length r ≡ 251
-  pub same : (k : ℕ) → k < m → get_or r k (pos 0) ≡ fair (get_or c (2 * k + offset) (pos 0))
-  pub again : get_or r m (pos 0) ≡ get_or r 0 (pos 0)
-  pub none : m ≡ 0 → get_or r 0 (pos 0) ≡ pos 0
-  pub zeros : (k : ℕ) → m < k → get_or r k (pos 0) ≡ pos 0
+-- Inner: points within 100,000 of zero, segments within 200,000
+pub record CornerWithin (q : Corner) : Type 0 where
+  pub x : Within 100000 q.x
+  pub y : Within 100000 q.y
+  pub dx : Within 200000 q.dx
+  pub dy : Within 200000 q.dy

@@ -10,4 +10,3 @@ pub mod Parts
 pub mod Telling
 pub mod Stages
 pub mod Filling
-pub mod Firstly

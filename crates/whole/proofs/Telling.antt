@@ -1,5 +1,4 @@
--- Tests that tell whether something holds, put together, and the search for the lowest number of which something holds: each
--- turn passes one number more that is not it. Assumes nothing.
+-- Tests that tell whether something holds, put together, and the search for the lowest number of which something holds. Assumes nothing.
 use mathlib.Core.Path.{◌≡◌, refl, sym, ap, ap₂, ◌∙◌}
 use mathlib.Core.Bool.{Bool, true, false, not, ◌&&◌, ◌||◌}
 use mathlib.Core.Logic.{◌⊎◌, inl, inr}
@@ -8,7 +7,7 @@ use native.Mathlib.Omega.{arith}
 use lib.Dec.{eqb}
 use borrow.Author.Tests.{eqb-true, eq-eqb, not-true}
 use Rattle.whole.proofs.TestLaws.{true≢false, and_true, not_true_false}
-use Rattle.whole.specs.Lowest.{Lowest, Sought, FirstPlace}
+use Rattle.whole.specs.Lowest.{Lowest}
 use Rattle.whole.specs.Tells.{Tells}
 
 -- ---- tests
@@ -57,21 +56,11 @@ tells_or {P} {Q} {a} {b} t u = record { yes = yes a refl; when = when }
     when (inl p) = ap (λ (x : Bool). x || b) (t.when p)
     when (inr q) = or_true a b (u.when q)
 
--- ---- the search
+-- ---- the search, as `find` over a range tells it
 
-module _ {Good Bad : ℕ → Type 0} {n k : ℕ} (good : (j : ℕ) → j < k → Good j) where
-  pub found : k < n → Bad k → Sought Good Bad n k
-  found h b = record { within = omega arith; passed = good; here = λ _. b }
+pub lowest_told : {P : ℕ → Type 0} {n r : ℕ}
+    → (0 ≤ r) × (r < n) × Tells (P r) true × ((k : ℕ) → 0 ≤ k → k < r → Tells (P k) false) → Lowest P n r
+lowest_told f = record { below = f.1; here = f.2.yes refl; none = λ k b. told_not (f.3 k (omega arith) b) refl }
 
-  pub ended : k ≡ n → Sought Good Bad n k
-  ended e = record { within = omega arith; passed = good; here = λ h. absurd (over h e) }
-    where
-      over : {a b : ℕ} → a < b → a ≡ b → ⊥
-      over h e = omega arith
-
-module _ {P : ℕ → Type 0} {n r : ℕ} (s : FirstPlace P n r) where
-  pub sought_lowest : r < n → Lowest P n r
-  sought_lowest h = record { below = h; here = s.here h; none = s.passed }
-
-  pub sought_none : n ≤ r → (j : ℕ) → j < n → P j → ⊥
-  sought_none h j b = s.passed j (omega arith)
+pub none_told : {P : ℕ → Type 0} {n : ℕ} → ((k : ℕ) → 0 ≤ k → k < n → Tells (P k) false) → (k : ℕ) → k < n → P k → ⊥
+none_told f k h = told_not (f k (omega arith) h) refl

@@ -4,4 +4,3 @@ pub mod Tests
 pub mod Lowest
 pub mod Tells
 pub mod Filled
-pub mod Firstly

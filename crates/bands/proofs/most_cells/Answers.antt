@@ -1,35 +1,31 @@
--- `bands::most_cells` meets its contract. The invariant: the most of the bands passed. Assumes nothing.
-use mathlib.Core.Path.{refl, sym, ap, ap₂, ◌∙◌}
-use Prim.Native.Nat.{max}
-use native.Mathlib.Numerals.{add-one}
-use native.Mathlib.Omega.{arith}
-use Rattle.stack.specs.Laid.{laid}
-use Rattle.stack.proofs.Laying.{laid_long}
+-- `most_cells` meets its contract: above the topmost band the most of those passed is the most of all. Assumes nothing.
+use Rattle.std.proofs.Common.{◌+◌, ◌*◌, refl, sym, ap, ap₂, ◌∙◌, max, arith, add-one}
+use Rattle.stack.specs.declared.Band.{Band}
+use Rattle.stack.proofs.StackLaws.{lower_count, upper_count}
 use Rattle.bands.specs.Filling.{cells_to}
 use Rattle.bands.proofs.CellLaws.{cells_all}
 use Rattle.bands.proofs.most_cells.Goals as goal
 
 pub loop-k-init : goal.loop-k-init
 unfolding cells_to
-loop-k-init c = (omega arith, refl, refl)
-
-pub overflow_add-k : goal.overflow_add-k
-overflow_add-k c = omega (arith, c.requires.twenty)
+loop-k-init c = refl
 
 pub cells_of-requires : goal.cells_of-requires
-cells_of-requires c = (c.requires, omega arith)
+cells_of-requires c =
+    let es = c.args.layers.now in
+    let k = c.loop-k.k in
+    let band = c.band_at.ensures in (
+      omega (arith, lower_count es k band, c.requires.many k (omega arith)),
+      omega (arith, upper_count es k band, c.requires.many (k + 1) (omega arith)),
+    )
 
 pub loop-k-preserved : goal.loop-k-preserved
 unfolding cells_to
 loop-k-preserved c =
-    let so = c.loop-k in
-    let es = laid c.args.stack in (
-      omega arith,
-      so.invariant.1,
-      c.greater-most.ensures ∙ ap₂ max so.invariant.2 c.cells_of.ensures ∙ sym (ap (cells_to es) (add-one so.k)),
-    )
+    let es = c.args.layers.now in
+    let k = c.loop-k.k in
+    let cells = c.cells_of.ensures ∙ ap (λ (b : Band). (b.lower.count + 1) * (b.upper.count + 1)) c.band_at.ensures in
+    c.max-most.ensures ∙ ap₂ max c.loop-k.invariant cells ∙ sym (ap (cells_to es) (add-one k))
 
 pub returns : goal.returns
-returns c =
-    let st = c.args.stack in
-    c.loop-k.invariant.2 ∙ cells_all (laid st) c.loop-k.k (omega (arith, c.loop-k.invariant, laid_long st))
+returns c = c.loop-k.invariant ∙ cells_all c.args.layers.now c.loop-k.k (omega arith)

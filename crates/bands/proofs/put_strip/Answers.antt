@@ -1,13 +1,14 @@
--- `bands::put_strip` meets its contract: the two traces are accepted and there is room, so `best` cannot be refused. Assumes nothing.
-use native.Mathlib.Omega.{arith}
-use Rattle.bands.proofs.FillLaws.{band_small, band_filled}
+-- `put_strip` meets its contract: the two traces are accepted and there is room, so `best` cannot be refused. (`returns` stands first:
+-- that is what a wrong program with the traces exchanged does not show.) Assumes nothing.
+use Rattle.std.proofs.Common.{arith}
+use Rattle.bands.proofs.FillLaws.{band_small, band_ok, band_filled}
 use Rattle.bands.proofs.put_strip.Goals as goal
-
-pub overflow_add-result : goal.overflow_add-result
-overflow_add-result c =
-    omega (arith, band_small c.requires c.layer_at-lower.ensures c.layer_at-upper.ensures)
 
 pub returns : goal.returns
 returns c =
-    band_filled c.requires c.layer_at-lower.ensures c.layer_at-upper.ensures
-    c.trace_of.ensures c.trace_of-2.ensures c.best.ensures
+    let band = c.band_at-band.ensures in
+    band_filled c.requires band c.trace_of-below.ensures c.trace_of-above.ensures c.best.ensures (omega (arith, band_small c.requires band))
+
+pub unwrap-requires : goal.unwrap-requires
+unwrap-requires c =
+    band_ok c.requires c.band_at-band.ensures c.trace_of-below.ensures c.trace_of-above.ensures c.best.ensures

@@ -13,9 +13,9 @@ use Rattle.joining.proofs.NextCases.{no_strip}
 use Rattle.joining.proofs.CellLaws.{room_needs}
 use Rattle.joining.proofs.RowLaws.{cells_few}
 use Rattle.joining.proofs.OutlineLaws.{filled_is}
-use Rattle.joining.proofs.BestLaws.{untouched, enough_strip, enough_work}
+use Rattle.joining.proofs.BestLaws.{tabled_by, untouched, enough_strip, enough_work}
 use Rattle.joining.proofs.NextLaws.{filled_marked}
-use Rattle.joining.proofs.FollowLaws.{turned_as, value_back, refused_is, not_handed, Handed, handed, below_is, next_done, none_done}
+use Rattle.joining.proofs.FollowLaws.{turned_as, value_back, not_handed, Handed, handed, below_is, next_done, none_done}
 use Rattle.joining.proofs.follow.Goals as goal
 
 pub slice_bounds-judge_strip-end-2 : goal.slice_bounds-judge_strip-end-2
@@ -26,17 +26,17 @@ slice_bounds-judge_strip-end-2 c =
 pub returns-in_default : goal.returns-in_default
 returns-in_default c =
     let p = c.requires.0 in
-    refused_is c.refusal.ensures
+    rw c.refuse.ensures
     (no_strip p.pair c.requires.1 (not_handed c.args.strip.now p c.judge_strip-handed_in.ensures c.in_default.is) untouched)
 
 pub mark_all-greatest-requires : goal.mark_all-greatest-requires
 mark_all-greatest-requires c =
     let p = c.requires.0 in
-    (p, room_needs (omega (arith, cells_few _ _ p.pair.lower.not_many p.pair.upper.not_many, c.no_marks-marks.ensures)))
+    (p.pair, room_needs (omega (arith, cells_few _ _ p.pair.lower.not_many p.pair.upper.not_many)))
 
 pub returns-then-turned : goal.returns-then-turned
 returns-then-turned c =
-    let given : Handed c.args.a.now c.args.b.now c.args.m c.args.n c.args.strip.now c.in-Value.value = handed c.requires.0 c.judge_strip-handed_in.ensures c.in-Value.is
+    let given : Handed c.args.a.now c.args.b.now c.args.m c.args.n c.args.strip.now c.in-Ok.value = handed c.requires.0 c.judge_strip-handed_in.ensures c.in-Ok.is
     in
     let p = c.requires.0 in
     let s = given in
@@ -44,7 +44,7 @@ returns-then-turned c =
     next_done p c.requires.1
     (record {
       handed = s;
-      filled = filled_is (read_back w64 found.result found.type_inv) found.ensures;
+      filled = filled_is (read_back w64 found.result found.type_inv) (tabled_by p found.ensures);
       not_less = ap (λ (v : ℤ). lt_z v (to_z w64 (of_z w64 found.result))) (sym (value_back p s)) ∙ c.if-value-greatest.false;
       turned = turned_as c.if-turned.true (c.turn-turned.ensures s.strip);
       zeros = c.clear.ensures;
@@ -52,20 +52,20 @@ returns-then-turned c =
 
 pub returns-then-value-greatest : goal.returns-then-value-greatest
 returns-then-value-greatest c =
-    let given : Handed c.args.a.now c.args.b.now c.args.m c.args.n c.args.strip.now c.in-Value.value = handed c.requires.0 c.judge_strip-handed_in.ensures c.in-Value.is
+    let given : Handed c.args.a.now c.args.b.now c.args.m c.args.n c.args.strip.now c.in-Ok.value = handed c.requires.0 c.judge_strip-handed_in.ensures c.in-Ok.is
     in
     let p = c.requires.0 in
     let s = given in
     let found = c.mark_all-greatest in
-    refused_is c.refusal-then-value-greatest.ensures
-    (below_is p c.requires.1 s found.ensures (ap₂ lt_z (sym (value_back p s)) (sym (read_back w64 found.result found.type_inv)) ∙ c.if-value-greatest.true))
+    rw c.refuse-then-value-greatest.ensures
+    (below_is p c.requires.1 s (tabled_by p found.ensures) (ap₂ lt_z (sym (value_back p s)) (sym (read_back w64 found.result found.type_inv)) ∙ c.if-value-greatest.true))
 
 pub turn-turned-requires : goal.turn-turned-requires
 turn-turned-requires c =
-    let given : Handed c.args.a.now c.args.b.now c.args.m c.args.n c.args.strip.now c.in-Value.value = handed c.requires.0 c.judge_strip-handed_in.ensures c.in-Value.is
+    let given : Handed c.args.a.now c.args.b.now c.args.m c.args.n c.args.strip.now c.in-Ok.value = handed c.requires.0 c.judge_strip-handed_in.ensures c.in-Ok.is
     in
     let f = few_points c.requires.0 in
-    (filled_marked c.mark_all-greatest.ensures f.1 f.3 (room_needs (omega (arith, cells_few _ _ f.1 f.3, c.no_marks-marks.ensures))), enough_strip {work = c.args.work.now} c.requires.0 c.requires.1, given.strip)
+    (filled_marked (tabled_by c.requires.0 c.mark_all-greatest.ensures) f.1 f.3 (room_needs (omega (arith, cells_few _ _ f.1 f.3))), enough_strip {work = c.args.work.now} c.requires.0 c.requires.1, given.strip)
 
 pub overflow_mul-m : goal.overflow_mul-m
 overflow_mul-m c =
@@ -78,7 +78,7 @@ clear-requires c =
 
 pub returns-else-turned : goal.returns-else-turned
 returns-else-turned c =
-    let given : Handed c.args.a.now c.args.b.now c.args.m c.args.n c.args.strip.now c.in-Value.value = handed c.requires.0 c.judge_strip-handed_in.ensures c.in-Value.is
+    let given : Handed c.args.a.now c.args.b.now c.args.m c.args.n c.args.strip.now c.in-Ok.value = handed c.requires.0 c.judge_strip-handed_in.ensures c.in-Ok.is
     in
     let p = c.requires.0 in
     let s = given in
@@ -86,7 +86,7 @@ returns-else-turned c =
     none_done p c.requires.1
     (record {
       handed = s;
-      filled = found.ensures;
+      filled = (tabled_by p found.ensures);
       not_less = ap₂ lt_z (sym (value_back p s)) (sym (read_back w64 found.result found.type_inv)) ∙ c.if-value-greatest.false;
       turned = turned_as c.if-turned.false (c.turn-turned.ensures s.strip);
       zeros = c.clear.ensures;

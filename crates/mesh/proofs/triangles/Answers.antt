@@ -1,78 +1,47 @@
--- `mesh::triangles` meets its contract: each `return` is one case of 01's order. Assumes nothing.
-use mathlib.Core.Path.{◌≡◌}
-use native.Mathlib.Omega.{arith}
-use Rattle.stack.specs.Entries.{steps}
-use Rattle.stack.specs.Faults.{AcceptedStack}
-use Rattle.stack.specs.Laid.{laid}
-use Rattle.stack.proofs.Told.{stack_stopped, stack_fit, stack_steps, strips_stopped, strips_right}
-use Rattle.mesh.specs.Working.{Fitted}
+-- `triangles` meets its contract: each `return` is one case of 01's order. Assumes nothing.
+use Rattle.std.proofs.Common.{◌≡◌, Err, arith, rules}
+use Rattle.stack.proofs.Cases.{stack_stopped, strips_stopped}
+use Rattle.stack.proofs.Exact.{fit_exactly}
 use Rattle.mesh.proofs.Cases.{list_stack, list_room, list_strips}
 use Rattle.mesh.proofs.ClosedLaws.{drawn}
-use Rattle.mesh.proofs.MeshLaws.{sized, triangles_few, triangled}
+use Rattle.mesh.proofs.MeshLaws.{fitted, sized, triangles_few, triangled}
 use Rattle.mesh.proofs.triangles.Goals as goal
 
-pub returns-in-Refused : goal.returns-in-Refused
-returns-in-Refused c = list_stack (stack_stopped c.judge_stack.ensures c.in-Refused.is)
+pub returns-in_err-fit : goal.returns-in_err-fit
+returns-in_err-fit c =
+    let e : c.from_residual.result ≡ Err c.in_err-fit.field-0.0 = search rules in
+    rw e (list_stack (stack_stopped c.in_err-fit.ensures))
 
 pub triangle_count-count-requires : goal.triangle_count-count-requires
 triangle_count-count-requires c =
-    let accepted : let a = c.args in AcceptedStack (laid a.stack) a.coords.now = stack_fit c.judge_stack.ensures c.in-Fit.is
-    in
-    let counted : c.in-Fit.steps ≡ steps (laid c.args.stack) = stack_steps c.judge_stack.ensures c.in-Fit.is
-    in
-    (sized accepted, counted)
+    let fit = (fit_exactly _).0 c.in_ok-fit.ensures in
+    (sized fit.0, fit.2)
 
 pub overflow_mul-count : goal.overflow_mul-count
 overflow_mul-count c =
-    let accepted : let a = c.args in AcceptedStack (laid a.stack) a.coords.now = stack_fit c.judge_stack.ensures c.in-Fit.is
-    in
-    omega (arith, c.triangle_count-count.ensures, triangles_few (sized accepted))
+    omega (arith, c.triangle_count-count.ensures, triangles_few (sized ((fit_exactly _).0 c.in_ok-fit.ensures).0))
 
 pub returns-then-out-count : goal.returns-then-out-count
 returns-then-out-count c =
-    let accepted : let a = c.args in AcceptedStack (laid a.stack) a.coords.now = stack_fit c.judge_stack.ensures c.in-Fit.is
-    in
-    list_room accepted c.triangle_count-count.ensures (omega (arith, c.if-out-count.true)) c.refuse.ensures
+    list_room ((fit_exactly _).0 c.in_ok-fit.ensures).0 c.triangle_count-count.ensures c.if-out-count.true c.refuse.ensures
 
-pub returns-in-Refused-judge_strips : goal.returns-in-Refused-judge_strips
-returns-in-Refused-judge_strips c =
-    let accepted : let a = c.args in AcceptedStack (laid a.stack) a.coords.now = stack_fit c.judge_stack.ensures c.in-Fit.is
-    in
-    let a = accepted in
-    list_strips a c.triangle_count-count.ensures (omega (arith, c.if-out-count.false))
-    (strips_stopped c.judge_strips.ensures a.layers c.in-Refused-judge_strips.is)
+pub returns-in_err-judge_strips : goal.returns-in_err-judge_strips
+returns-in_err-judge_strips c =
+    let fit = ((fit_exactly _).0 c.in_ok-fit.ensures).0 in
+    let e : c.from_residual-in_err-judge_strips.result ≡ Err c.in_err-judge_strips.field-0.0 = search rules in
+    rw e (list_strips fit c.triangle_count-count.ensures c.if-out-count.false (strips_stopped fit.layers c.in_err-judge_strips.ensures))
 
 pub six_of-six-requires : goal.six_of-six-requires
-six_of-six-requires c =
-    let accepted : let a = c.args in AcceptedStack (laid a.stack) a.coords.now = stack_fit c.judge_stack.ensures c.in-Fit.is
-    in
-    let fitted : let a = c.args in Fitted a.stack a.coords.now a.strips.now = record {
-      stack = accepted;
-      strips = strips_right c.judge_strips.ensures c.in-Whole.is;
-    }
-    in
-    fitted
+six_of-six-requires c = fitted c.in_ok-fit.ensures c.in_ok-judge_strips.ensures
 
 pub put_all-requires : goal.put_all-requires
-put_all-requires c =
-    let counted : c.in-Fit.steps ≡ steps (laid c.args.stack) = stack_steps c.judge_stack.ensures c.in-Fit.is
-    in
-    let accepted : let a = c.args in AcceptedStack (laid a.stack) a.coords.now = stack_fit c.judge_stack.ensures c.in-Fit.is
-    in
-    let fitted : let a = c.args in Fitted a.stack a.coords.now a.strips.now = record {
-      stack = accepted;
-      strips = strips_right c.judge_strips.ensures c.in-Whole.is;
-    }
-    in
-    (drawn fitted, counted, omega (arith, c.triangle_count-count.ensures, c.if-out-count.false))
+put_all-requires c = (
+  drawn (fitted c.in_ok-fit.ensures c.in_ok-judge_strips.ensures),
+  ((fit_exactly _).0 c.in_ok-fit.ensures).2,
+  omega (arith, c.triangle_count-count.ensures, c.if-out-count.false),
+)
 
 pub returns : goal.returns
 returns c =
-    let accepted : let a = c.args in AcceptedStack (laid a.stack) a.coords.now = stack_fit c.judge_stack.ensures c.in-Fit.is
-    in
-    let fitted : let a = c.args in Fitted a.stack a.coords.now a.strips.now = record {
-      stack = accepted;
-      strips = strips_right c.judge_strips.ensures c.in-Whole.is;
-    }
-    in
-    triangled fitted c.six_of-six.ensures c.triangle_count-count.ensures c.if-out-count.false c.put_all.ensures
+    triangled (fitted c.in_ok-fit.ensures c.in_ok-judge_strips.ensures) c.six_of-six.ensures c.triangle_count-count.ensures c.if-out-count.false
+    c.put_all.ensures

@@ -1,34 +1,24 @@
--- `mesh::volume` meets its contract: each `return` is one case of 01's order. Assumes nothing.
-use Rattle.stack.specs.Faults.{AcceptedStack}
-use Rattle.stack.specs.Laid.{laid}
-use Rattle.stack.proofs.Told.{stack_stopped, stack_fit, strips_stopped, strips_right}
-use Rattle.mesh.specs.Working.{Fitted}
+-- `volume` meets its contract: each `return` is one case of 01's order. Assumes nothing.
+use Rattle.std.proofs.Common.{◌≡◌, Err, rules}
+use Rattle.stack.proofs.Cases.{stack_stopped, strips_stopped}
+use Rattle.stack.proofs.Exact.{fit_exactly}
 use Rattle.mesh.proofs.Cases.{stack, strips}
-use Rattle.mesh.proofs.MeshLaws.{measured}
+use Rattle.mesh.proofs.MeshLaws.{fitted, measured}
 use Rattle.mesh.proofs.volume.Goals as goal
 
-pub returns-in-Refused : goal.returns-in-Refused
-returns-in-Refused c = stack (stack_stopped c.judge_stack.ensures c.in-Refused.is)
+pub returns-in_err-judge_stack : goal.returns-in_err-judge_stack
+returns-in_err-judge_stack c =
+    let e : c.from_residual.result ≡ Err c.in_err-judge_stack.field-0.0 = search rules in
+    rw e (stack (stack_stopped c.in_err-judge_stack.ensures))
 
-pub returns-in-Refused-judge_strips : goal.returns-in-Refused-judge_strips
-returns-in-Refused-judge_strips c =
-    let accepted : let a = c.args in AcceptedStack (laid a.stack) a.coords.now = stack_fit c.judge_stack.ensures c.in-Fit.is
-    in
-    let a = accepted in
-    strips a (strips_stopped c.judge_strips.ensures a.layers c.in-Refused-judge_strips.is)
+pub returns-in_err-judge_strips : goal.returns-in_err-judge_strips
+returns-in_err-judge_strips c =
+    let fit = ((fit_exactly _).0 c.in_ok-judge_stack.ensures).0 in
+    let e : c.from_residual-in_err-judge_strips.result ≡ Err c.in_err-judge_strips.field-0.0 = search rules in
+    rw e (strips fit (strips_stopped fit.layers c.in_err-judge_strips.ensures))
 
 pub six_of-requires : goal.six_of-requires
-six_of-requires c =
-    let accepted : let a = c.args in AcceptedStack (laid a.stack) a.coords.now = stack_fit c.judge_stack.ensures c.in-Fit.is
-    in
-    let fitted : let a = c.args in Fitted a.stack a.coords.now a.strips.now = record { stack = accepted; strips = strips_right c.judge_strips.ensures c.in-Whole.is }
-    in
-    fitted
+six_of-requires c = fitted c.in_ok-judge_stack.ensures c.in_ok-judge_strips.ensures
 
 pub returns : goal.returns
-returns c =
-    let accepted : let a = c.args in AcceptedStack (laid a.stack) a.coords.now = stack_fit c.judge_stack.ensures c.in-Fit.is
-    in
-    let fitted : let a = c.args in Fitted a.stack a.coords.now a.strips.now = record { stack = accepted; strips = strips_right c.judge_strips.ensures c.in-Whole.is }
-    in
-    measured fitted c.six_of.ensures
+returns c = measured (fitted c.in_ok-judge_stack.ensures c.in_ok-judge_strips.ensures) c.six_of.ensures

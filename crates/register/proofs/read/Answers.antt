@@ -1,42 +1,20 @@
 -- `register::read` meets its contract: the blocks first, then what they hold. Assumes nothing.
+use Rattle.std.proofs.lemmas.Result.{err_from_is_err_and}
 use mathlib.Core.Path.{sym}
-use native.Mathlib.Omega.{arith}
-use lib.ListN.{length-take}
-use Rattle.blocks.specs.Faults.{Sound}
+use mathlib.Core.Logic.{inl}
+use Rattle.blocks.proofs.Cases.{blocks_stopped}
+use Rattle.blocks.proofs.Exact.{sound_exactly}
 use Rattle.blocks.proofs.RoundTrip.{opened_contents}
-use Rattle.register.proofs.ReadCases.{blocks_told, blocks_sound, read_from}
+use Rattle.register.specs.Reading as read
+use Rattle.register.proofs.ReadCases.{read_from}
 use Rattle.register.proofs.read.Goals as goal
 
-pub returns-in-Refused : goal.returns-in-Refused
-returns-in-Refused c = rw c.lost.ensures (blocks_told c.judge_blocks.ensures c.in-Refused.is)
-
-pub overflow_mul-end : goal.overflow_mul-end
-overflow_mul-end c =
-    let sound : Sound c.args.file.now c.in-Sound.number = blocks_sound c.judge_blocks.ensures c.in-Sound.is
-    in
-    omega (arith, sound.blocks.few)
-
-pub slice_bounds-contents-end : goal.slice_bounds-contents-end
-slice_bounds-contents-end c =
-    let sound : Sound c.args.file.now c.in-Sound.number = blocks_sound c.judge_blocks.ensures c.in-Sound.is
-    in
-    omega (arith, sound.blocks.few, c.contents-contents.ensures.long)
-
-pub slice_bounds-read_contents-end : goal.slice_bounds-read_contents-end
-slice_bounds-read_contents-end c =
-    let sound : Sound c.args.file.now c.in-Sound.number = blocks_sound c.judge_blocks.ensures c.in-Sound.is
-    in
-    simp length-take (omega (arith, sound.blocks.few, c.contents-contents.ensures.long))
-
-pub read_contents-requires : goal.read_contents-requires
-read_contents-requires c =
-    let sound : Sound c.args.file.now c.in-Sound.number = blocks_sound c.judge_blocks.ensures c.in-Sound.is
-    in
-    simp length-take (omega (arith, sound.blocks.few, c.contents-contents.ensures.long))
+pub returns-in_err-number : goal.returns-in_err-number
+returns-in_err-number c =
+    let p = err_from_is_err_and c.from_residual.result c.from_residual.ensures.1 in
+    rw (p.1, p.2) (read.ReadAnswer.refused (inl (blocks_stopped c.in_err-number.ensures)))
 
 pub returns : goal.returns
 returns c =
-    let sound : Sound c.args.file.now c.in-Sound.number = blocks_sound c.judge_blocks.ensures c.in-Sound.is
-    in
-    let s = sound in
-    read_from s c.read_contents.ensures (sym (opened_contents c.contents-contents.ensures s.blocks.whole s.blocks.few))
+    let sound = sound_exactly.0 c.in_ok-number.ensures in
+    read_from sound c.read_contents.ensures (sym (opened_contents c.contents-contents.ensures sound.blocks.whole sound.blocks.few))

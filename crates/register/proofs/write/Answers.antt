@@ -1,92 +1,58 @@
 -- `register::write` meets its contract: each `return` is one case of 01's order. Assumes nothing.
-use Prim.Native.Nat.{◌+◌, ◌*◌, ◌≤◌}
+use Rattle.std.proofs.lemmas.Result.{err_from_is_err_and}
 use native.Mathlib.Omega.{arith}
-use lib.ListN.{length}
-use Rattle.stack.specs.Laid.{laid}
-use Rattle.stack.proofs.Told.{stack_stopped, strips_stopped, strips_right}
-use Rattle.register.specs.Writing.{file_long}
+use lib.ListN.{length-take}
+use Rattle.stack.proofs.Cases.{stack_stopped, strips_stopped}
+use Rattle.stack.proofs.Exact.{whole_exactly}
 use Rattle.register.proofs.WriteCases as answer
-use Rattle.register.proofs.WriteLaws.{Sized, sized, asked, sized_few}
+use Rattle.register.proofs.WriteLaws.{long_few, sized, asked, sized_few, front_sealed, never_unsealed, sealed_as}
 use Rattle.register.proofs.write.Goals as goal
 
-pub overflow_mul-long : goal.overflow_mul-long
-overflow_mul-long c =
-    let fit : let a = c.args in
-    Sized a.stack a.coords.now (2 + 6 * a.stack.count + 8 * c.in-Fit.points + c.in-Fit.steps) = sized c.judge_stack.ensures c.in-Fit.is
-    in
-    omega (arith, sized_few fit)
+pub returns-in_err-fit : goal.returns-in_err-fit
+returns-in_err-fit c =
+    let p = err_from_is_err_and c.from_residual.result c.from_residual.ensures.1 in
+    rw (p.1, p.2) (answer.stack (stack_stopped c.in_err-fit.ensures))
 
-pub overflow_add-long : goal.overflow_add-long
-overflow_add-long c =
-    let fit : let a = c.args in
-    Sized a.stack a.coords.now (2 + 6 * a.stack.count + 8 * c.in-Fit.points + c.in-Fit.steps) = sized c.judge_stack.ensures c.in-Fit.is
-    in
-    omega (arith, sized_few fit)
+pub overflow_add-long-3 : goal.overflow_add-long-3
+overflow_add-long-3 c = omega (arith, sized_few (sized c.in_ok-fit.ensures))
 
-pub overflow_mul-long-in-Fit : goal.overflow_mul-long-in-Fit
-overflow_mul-long-in-Fit c =
-    let fit : let a = c.args in
-    Sized a.stack a.coords.now (2 + 6 * a.stack.count + 8 * c.in-Fit.points + c.in-Fit.steps) = sized c.judge_stack.ensures c.in-Fit.is
-    in
-    omega (arith, sized_few fit)
+pub overflow_mul-div_ceil : goal.overflow_mul-div_ceil
+overflow_mul-div_ceil c = omega (arith, sized_few (sized c.in_ok-fit.ensures), c.div_ceil.ensures)
 
-pub overflow_add-long-in-Fit : goal.overflow_add-long-in-Fit
-overflow_add-long-in-Fit c =
-    let fit : let a = c.args in
-    Sized a.stack a.coords.now (2 + 6 * a.stack.count + 8 * c.in-Fit.points + c.in-Fit.steps) = sized c.judge_stack.ensures c.in-Fit.is
-    in
-    omega (arith, sized_few fit)
+pub returns-then-out-div_ceil : goal.returns-then-out-div_ceil
+returns-then-out-div_ceil c =
+    let fit = sized c.in_ok-fit.ensures in
+    rw c.refuse.ensures (answer.room fit.accepted (omega (arith, asked fit, c.div_ceil.ensures, c.if-out-div_ceil.true)))
 
-pub overflow_add-long-in-Fit-2 : goal.overflow_add-long-in-Fit-2
-overflow_add-long-in-Fit-2 c =
-    let fit : let a = c.args in
-    Sized a.stack a.coords.now (2 + 6 * a.stack.count + 8 * c.in-Fit.points + c.in-Fit.steps) = sized c.judge_stack.ensures c.in-Fit.is
-    in
-    omega (arith, sized_few fit)
+pub returns-in_err-judge_strips : goal.returns-in_err-judge_strips
+returns-in_err-judge_strips c =
+    let fit = sized c.in_ok-fit.ensures in
+    let p = err_from_is_err_and c.from_residual-in_err-judge_strips.result c.from_residual-in_err-judge_strips.ensures.1 in
+    rw (p.1, p.2)
+    (answer.strips fit.accepted (omega (arith, asked fit, c.div_ceil.ensures, c.if-out-div_ceil.false))
+    (strips_stopped fit.accepted.layers c.in_err-judge_strips.ensures))
 
-pub returns-in-Refused : goal.returns-in-Refused
-returns-in-Refused c = answer.stack (stack_stopped c.judge_stack.ensures c.in-Refused.is)
+pub put_contents-requires : goal.put_contents-requires
+put_contents-requires c =
+    let fit = sized c.in_ok-fit.ensures in
+    (fit.accepted, (whole_exactly.0 c.in_ok-judge_strips.ensures).1, omega (arith, long_few fit.accepted))
 
-pub overflow_add-long-2 : goal.overflow_add-long-2
-overflow_add-long-2 c =
-    let fit : let a = c.args in
-    Sized a.stack a.coords.now (2 + 6 * a.stack.count + 8 * c.in-Fit.points + c.in-Fit.steps) = sized c.judge_stack.ensures c.in-Fit.is
-    in
-    omega (arith, sized_few fit)
+pub slice_bounds-contents-end : goal.slice_bounds-contents-end
+slice_bounds-contents-end c = omega (arith, sized_few (sized c.in_ok-fit.ensures), c.put_contents.auto.out)
 
-pub overflow_mul-long-2 : goal.overflow_mul-long-2
-overflow_mul-long-2 c =
-    let fit : let a = c.args in
-    Sized a.stack a.coords.now (2 + 6 * a.stack.count + 8 * c.in-Fit.points + c.in-Fit.steps) = sized c.judge_stack.ensures c.in-Fit.is
-    in
-    omega (arith, sized_few fit)
+pub slice_bounds-seal-end : goal.slice_bounds-seal-end
+slice_bounds-seal-end c = simp length-take (omega (arith, sized_few (sized c.in_ok-fit.ensures), c.put_contents.auto.out))
 
-pub returns-then-out-long : goal.returns-then-out-long
-returns-then-out-long c =
-    let fit : let a = c.args in
-    Sized a.stack a.coords.now (2 + 6 * a.stack.count + 8 * c.in-Fit.points + c.in-Fit.steps) = sized c.judge_stack.ensures c.in-Fit.is
-    in
-    let f = fit in
-    rw c.refuse.ensures (answer.room f.accepted (omega (arith, asked f, c.if-out-long.true)))
+pub returns-in_err-number : goal.returns-in_err-number
+returns-in_err-number c =
+    let fit = sized c.in_ok-fit.ensures in
+    let strips = (whole_exactly.0 c.in_ok-judge_strips.ensures).1 in
+    absurd (never_unsealed fit.accepted strips (omega (arith, asked fit, c.div_ceil.ensures, c.if-out-div_ceil.false))
+    (front_sealed fit.accepted strips fit.is c.put_contents.ensures c.in_err-number.ensures))
 
-pub put_file-requires : goal.put_file-requires
-put_file-requires c =
-    let fit : let a = c.args in
-    Sized a.stack a.coords.now (2 + 6 * a.stack.count + 8 * c.in-Fit.points + c.in-Fit.steps) = sized c.judge_stack.ensures c.in-Fit.is
-    in
-    let roomy : let a = c.args in
-    file_long (laid a.stack) a.coords.now ≤ length a.out.now = omega (arith, asked fit, c.if-out-long.false)
-    in
-    let f = fit in
-    (f.accepted, strips_right c.judge_strips.ensures c.in-Whole.is, f.is, roomy)
-
-pub returns-in-Refused-judge_strips : goal.returns-in-Refused-judge_strips
-returns-in-Refused-judge_strips c =
-    let fit : let a = c.args in
-    Sized a.stack a.coords.now (2 + 6 * a.stack.count + 8 * c.in-Fit.points + c.in-Fit.steps) = sized c.judge_stack.ensures c.in-Fit.is
-    in
-    let roomy : let a = c.args in
-    file_long (laid a.stack) a.coords.now ≤ length a.out.now = omega (arith, asked fit, c.if-out-long.false)
-    in
-    let a = fit.accepted in
-    answer.strips a roomy (strips_stopped c.judge_strips.ensures a.layers c.in-Refused-judge_strips.is)
+pub returns : goal.returns
+returns c =
+    let fit = sized c.in_ok-fit.ensures in
+    let strips = (whole_exactly.0 c.in_ok-judge_strips.ensures).1 in
+    sealed_as fit.accepted strips (omega (arith, asked fit, c.div_ceil.ensures, c.if-out-div_ceil.false))
+    (front_sealed fit.accepted strips fit.is c.put_contents.ensures c.in_ok-number.ensures)

@@ -1,30 +1,28 @@
--- `strip::judge_strip` meets its contract: each `return` is one case of the definition. A slice of another length is no strip, so
--- what is answered is what a walk would answer that has lost its way. Assumes nothing.
+-- `strip::judge_strip` meets its contract: each `return` is one case of the definition. Assumes nothing.
+use borrow.Author.Rules.{rules}
 use native.Mathlib.Omega.{arith}
+use mir.Syntax.{w64}
+use Rattle.std.proofs.lemmas.Result.{err_from_is_err_and}
+use Rattle.whole.proofs.Machine.{read_back}
 use Rattle.strip.proofs.JudgingLaws.{pair}
-use Rattle.strip.proofs.PairLaws.{counts, both_counts, few_points, refuses_lower, refuses_upper}
-use Rattle.strip.proofs.Along.{length_judged, along_judged, along_same}
+use Rattle.strip.proofs.PairLaws.{few_points}
+use Rattle.strip.proofs.Along.{length_judged, along_judged, none_judged}
 use Rattle.strip.proofs.judge_strip.Goals as goal
 
-pub returns-in_default : goal.returns-in_default
-returns-in_default c = pair (refuses_lower c.judge-judged.ensures c.in_default.is c.refused.ensures)
-
-pub returns-in_default-judged : goal.returns-in_default-judged
-returns-in_default-judged c =
-    pair (refuses_upper (counts c.judge-judged.ensures c.in-Fit.is).accepted c.judge-judged-2.ensures c.in_default-judged.is c.refused-in_default-judged.ensures)
+pub returns-in_err-m : goal.returns-in_err-m
+returns-in_err-m c =
+    let p = err_from_is_err_and c.from_residual.result c.from_residual.ensures.1 in
+    rw (p.1, p.2) (pair c.in_err-m.ensures)
 
 pub overflow_add-m : goal.overflow_add-m
-overflow_add-m c =
-    let sides = both_counts c.judge-judged.ensures c.in-Fit.is c.judge-judged-2.ensures c.in-Fit-judged.is in
-    omega (arith, few_points sides)
+overflow_add-m c = omega (arith, few_points c.in_ok-m.ensures)
 
 pub returns-then-strip-m : goal.returns-then-strip-m
-returns-then-strip-m c =
-    let sides = both_counts c.judge-judged.ensures c.in-Fit.is c.judge-judged-2.ensures c.in-Fit-judged.is in
-    length_judged c.lost.result sides c.answer.ensures c.if-strip-m.true c.lost.ensures.0
+returns-then-strip-m c = rw c.refuse.ensures (length_judged c.in_ok-m.ensures (λ e. omega (arith, e, c.if-strip-m.true)))
 
-pub returns : goal.returns
-returns c =
-    let sides = both_counts c.judge-judged.ensures c.in-Fit.is c.judge-judged-2.ensures c.in-Fit-judged.is in
-    let both = sides in
-    along_judged c.walk.result both c.answer-2.ensures c.if-strip-m.false (along_same both.pair c.walk.ensures)
+pub returns-in-Some : goal.returns-in-Some
+returns-in-Some c =
+    along_judged c.in_ok-m.ensures c.if-strip-m.false c.in-Some.ensures (read_back w64 c.in-Some.all.value (search rules))
+
+pub returns-in-None : goal.returns-in-None
+returns-in-None c = rw c.refuse-in-None.ensures (none_judged c.in_ok-m.ensures c.in-None.ensures)

@@ -1,54 +1,75 @@
--- `trace::walk` meets its contract. The invariant: point k is reached, and what the walk keeps is what `Along` says of the points
--- up to k. Assumes nothing.
-use mathlib.Core.Path.{ap, ◌∙◌}
-use mathlib.Core.Bool.{not}
+-- `trace::walk` meets its contract. The invariant: point k is reached, none up to there is out of range, and what the walk keeps is
+-- what `Along` says of the points up to k. Where a `?` ends the walk, its point is out of range, and so the judgement is RANGE.
+-- Assumes nothing.
+use mathlib.Core.Path.{◌∙◌, subst, sym}
+use Prim.Native.Nat.{◌+◌}
 use native.Mathlib.Omega.{arith}
+use Rattle.std.proofs.lemmas.Result.{err_from_is_err_and}
+use Rattle.trace.specs.Walk.{Along}
 use Rattle.trace.proofs.PointLaws.{counted}
-use Rattle.trace.proofs.Along.{along_begun, along_ready, along_step, along_closed, judged_walk}
+use Rattle.trace.proofs.Along.{along_begun, along_ready, along_step, along_closed, out_of_range, judged_walk}
 use Rattle.trace.proofs.walk.Goals as goal
 
 pub loop-k-init : goal.loop-k-init
 loop-k-init c =
     let coords = c.args.coords.now in
-    let n = c.args.count in
-    let p = c.point_at-first.result in (
-      omega arith,
-      along_begun coords p c.begun-so_far.result (omega (arith, counted coords n c.requires.0))
-          (record { x = c.point_at-first.ensures.0; y = c.point_at-first.ensures.1 })
-          c.begun-so_far.ensures.0 c.begun-so_far.ensures.1 c.begun-so_far.ensures.2
-          (c.begun-so_far.ensures.3 ∙ ap not c.is_inside.ensures),
-    )
+    let first = c.point_at-first in
+    let b = c.in_ok-so_far.ensures in
+    subst (Along coords 0) (sym b.1)
+    (along_begun coords first.result (omega (arith, counted coords c.args.count c.requires.0))
+    (record { x = first.ensures.0; y = first.ensures.1 }) b.0)
 
-pub walked_on-so_far-requires : goal.walked_on-so_far-requires
-walked_on-so_far-requires c =
-    let coords = c.args.coords.now in
-    let n = c.args.count in
-    along_ready coords _ _ c.loop-k.invariant.1 (omega (arith, counted coords n c.requires.0)) (omega arith)
-
-pub loop-k-preserved : goal.loop-k-preserved
-loop-k-preserved c =
-    let coords = c.args.coords.now in
-    let n = c.args.count in (
-      omega arith,
-      along_step coords _ _ c.point_at.result c.walked_on-so_far.result c.loop-k.invariant.1
-          (omega (arith, counted coords n c.requires.0))
-          (record { x = c.point_at.ensures.0; y = c.point_at.ensures.1 })
-          c.walked_on-so_far.ensures,
-    )
+pub returns-in_err-so_far : goal.returns-in_err-so_far
+returns-in_err-so_far c =
+    let first = c.point_at-first in
+    let p = err_from_is_err_and c.from_residual.result c.from_residual.ensures.1 in
+    let e = c.in_err-so_far.ensures in
+    rw (p.1, p.2, e.0)
+    (out_of_range c.args.coords.now c.args.count 0 first.result c.requires.0 c.requires.1 c.requires.2 (omega arith)
+    (record { x = first.ensures.0; y = first.ensures.1 }) e.1)
 
 pub walked_on-requires : goal.walked_on-requires
 walked_on-requires c =
     let coords = c.args.coords.now in
-    let n = c.args.count in
-    along_ready coords _ _ c.loop-k.invariant.1 (omega (arith, counted coords n c.requires.0)) (omega arith)
+    along_ready coords _ _ c.loop-k.invariant (omega (arith, counted coords c.args.count c.requires.0)) (omega arith)
+
+pub returns-in_err-so_far-2 : goal.returns-in_err-so_far-2
+returns-in_err-so_far-2 c =
+    let next = c.point_at in
+    let p = err_from_is_err_and c.from_residual-in_err-so_far-2.result c.from_residual-in_err-so_far-2.ensures.1 in
+    let e = c.in_err-so_far-2.ensures in
+    rw (p.1, p.2, e.0)
+    (out_of_range c.args.coords.now c.args.count (c.loop-k.k + 1) next.result c.requires.0 c.requires.1 c.requires.2 (omega arith)
+    (record { x = next.ensures.0; y = next.ensures.1 }) e.1)
+
+pub loop-k-preserved : goal.loop-k-preserved
+loop-k-preserved c =
+    let coords = c.args.coords.now in
+    let next = c.point_at in
+    let b = c.in_ok-so_far-2.ensures in
+    along_step coords _ _ next.result _ c.loop-k.invariant (omega (arith, counted coords c.args.count c.requires.0))
+    (record { x = next.ensures.0; y = next.ensures.1 }) b.0 b.1
+
+pub walked_on-requires-2 : goal.walked_on-requires-2
+walked_on-requires-2 c =
+    let coords = c.args.coords.now in
+    along_ready coords _ _ c.loop-k.invariant (omega (arith, counted coords c.args.count c.requires.0)) (omega arith)
+
+pub returns-in_err-walked_on : goal.returns-in_err-walked_on
+returns-in_err-walked_on c =
+    let first = c.point_at-first in
+    let p = err_from_is_err_and c.from_residual-in_err-walked_on.result c.from_residual-in_err-walked_on.ensures.1 in
+    let e = c.in_err-walked_on.ensures in
+    rw (p.1, p.2, e.0)
+    (out_of_range c.args.coords.now c.args.count 0 first.result c.requires.0 c.requires.1 c.requires.2 (omega arith)
+    (record { x = first.ensures.0; y = first.ensures.1 }) e.1)
 
 pub returns : goal.returns
 returns c =
     let coords = c.args.coords.now in
     let n = c.args.count in
-    let p = c.point_at-first in
-    let k = c.loop-k.k in
+    let first = c.point_at-first in
     c.verdict.ensures
-    ∙ along_closed coords n k _ p.result c.walked_on.result c.requires.0 (omega arith) c.loop-k.invariant.1
-    (record { x = p.ensures.0; y = p.ensures.1 }) c.walked_on.ensures
+    ∙ along_closed coords n c.loop-k.k _ first.result _ c.requires.0 (omega arith) c.loop-k.invariant
+    (record { x = first.ensures.0; y = first.ensures.1 }) c.in_ok-walked_on.ensures.1
     ∙ judged_walk coords n c.requires.0 c.requires.1 c.requires.2

@@ -1,10 +1,5 @@
-use Prim.Native.Nat.{◌-◌}
-use lib.ListN.{length}
 use Rattle.blocks.proofs.CheckLaws.{CheckSo}
 use Rattle.blocks.proofs.check.check.Given as goal
 
 abbrev pub invariant-loop-k : goal.invariant-loop-k
 invariant-loop-k l = CheckSo l.b l.contents l.k l.sum
-
-abbrev pub decreases-loop-k : goal.decreases-loop-k
-decreases-loop-k l = length l.contents - l.k

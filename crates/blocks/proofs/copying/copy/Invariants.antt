@@ -1,4 +1,3 @@
-use Prim.Native.Nat.{◌-◌}
 use lib.ListN.{take, drop}
 use Rattle.blocks.specs.Blocks.{padded}
 use Rattle.whole.proofs.Filling.{CopySo}
@@ -6,6 +5,3 @@ use Rattle.blocks.proofs.copying.copy.Given as goal
 
 abbrev pub invariant-loop-k : goal.invariant-loop-k
 invariant-loop-k l = CopySo (padded (take 508 (drop l.at l.list))) l.k l.initial.out l.out
-
-abbrev pub decreases-loop-k : goal.decreases-loop-k
-decreases-loop-k l = 508 - l.k

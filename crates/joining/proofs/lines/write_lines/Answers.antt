@@ -22,7 +22,7 @@ pub trace_back-requires : goal.trace_back-requires
 trace_back-requires c =
     let pre = c.requires in (
       filled_leads pre.0.filled pre.2 pre.3 (room_same _ pre.0.filled.long pre.4),
-      omega (arith, pre.6, mul-le-mul_right {m = 1} {n = c.args.limit} (c.args.m + c.args.n) pre.5),
+      omega (arith, pre.6, mul-le-mul_right {m = 1} {n = c.args.limit} (c.args.marks.m + c.args.marks.n) pre.5),
     )
 
 pub loop-count-init : goal.loop-count-init
@@ -32,7 +32,7 @@ loop-count-init c =
       omega arith,
       refl,
       λ f. lines_begun c.args.lines.now _ f.filled
-          (omega (arith, pre.6, mul-le-mul_right {m = 1} {n = c.args.limit} (c.args.m + c.args.n) pre.5))
+          (omega (arith, pre.6, mul-le-mul_right {m = 1} {n = c.args.limit} (c.args.marks.m + c.args.marks.n) pre.5))
           c.trace_back.ensures,
     )
 
@@ -57,7 +57,7 @@ slice_bounds-add_line-end c =
 pub add_line-requires : goal.add_line-requires
 add_line-requires c =
     let so = c.loop-count.invariant.3 c.requires.0 in
-    let as_long : c.args.limit * (c.args.m + c.args.n) ≤ length c.trace_back.new.strip = omega (arith, c.trace_back.auto.strip, c.requires.6)
+    let as_long : c.args.limit * (c.args.marks.m + c.args.marks.n) ≤ length c.trace_back.new.strip = omega (arith, c.trace_back.auto.strip, c.requires.6)
     in
     let pre = c.requires in
     let part = part_lent c.loop-count.last c.loop-count.lines in (
@@ -87,7 +87,7 @@ returns-then-not-add_line c = λ f.
     part_back c.loop-count.last c.loop-count.lines c.add_line.new.part
     ∙ ap (λ (r : List ℕ). take c.loop-count.last c.loop-count.lines ++ r) (stopped_same none)
     ∙ take-append-drop c.loop-count.last c.loop-count.lines in
-    subst (λ (l : List ℕ). WroteLines f.w c.args.m c.args.n c.args.limit c.args.lines.now l (record { count = c.loop-count.count; more = false }))
+    subst (λ (l : List ℕ). WroteLines f.w c.args.marks.m c.args.marks.n c.args.limit c.args.lines.now l (record { count = c.loop-count.count; more = false }))
     (sym same)
     (wrote c.args.lines.now run c.loop-count.invariant.1 first.0 first.1 first.2 (stopped_all f.filled run c.loop-count.invariant.0 none))
 
@@ -107,7 +107,7 @@ loop-count-preserved c = (
       let line = lent_added run _ (part_lent c.loop-count.last c.loop-count.lines) c.add_line.ensures in
       let back = part_back c.loop-count.last c.loop-count.lines c.add_line.new.part in
       let long = ap length (sym back) ∙ same_len_mid c.loop-count.last (length c.loop-count.lines - c.loop-count.last) c.loop-count.lines c.add_line.new.part c.add_line.auto.part in
-      subst (λ (l : List ℕ). LinesSo f.w c.args.m c.args.n c.trace_back.new.strip (c.loop-count.count + 1) (c.loop-count.last + (c.args.m + c.args.n)) l)
+      subst (λ (l : List ℕ). LinesSo f.w c.args.marks.m c.args.marks.n c.trace_back.new.strip (c.loop-count.count + 1) (c.loop-count.last + (c.args.marks.m + c.args.marks.n)) l)
       (sym back) (lines_more f.filled run (added_as (c.if-not-add_line.false) line) long),
 )
 
@@ -149,6 +149,8 @@ pub returns : goal.returns
 returns c = λ f.
     let run = c.loop-count.invariant.3 f in
     let first = first_line c.args.lines.now f.filled c.trace_back.ensures in
-    wrote c.args.lines.now run c.loop-count.invariant.1 first.0 first.1 first.2
-    (turn_beginning f.filled run (omega (arith, c.loop-count.invariant.0, c.loop-count-test.false))
-    (lent_turns run _ (part_lent c.loop-count.last c.loop-count.lines) c.can_turn.ensures))
+    let all : c.loop-count.count ≡ c.args.limit = omega (arith, c.loop-count.invariant.0, c.loop-count-test.false) in
+    subst (λ (k : ℕ). WroteLines f.w c.args.marks.m c.args.marks.n c.args.limit c.args.lines.now c.loop-count.lines (record { count = k; more = c.can_turn.result }))
+    all
+    (wrote c.args.lines.now run c.loop-count.invariant.1 first.0 first.1 first.2
+    (turn_beginning f.filled run all (lent_turns run _ (part_lent c.loop-count.last c.loop-count.lines) c.can_turn.ensures)))

@@ -2,12 +2,11 @@
 use Rattle.listing.proofs.PairLaws.{answered_pair, answered_text}
 use Rattle.listing.proofs.asked.read.Goals as goal
 
-pub returns-in_default : goal.returns-in_default
-returns-in_default c =
-    answered_text c.read_pair-parsed.ensures c.in_default.is c.clear.ensures
-    c.clear-in_default.ensures
-    c.read_pair-parsed.auto.a c.read_pair-parsed.auto.b
+pub returns-then-is_none : goal.returns-then-is_none
+returns-then-is_none c =
+    answered_text c.if-is_none.ensures c.read_pair-asked.ensures (c.fill.ensures.after (λ y e. e))
+    (c.fill-then-is_none.ensures.after (λ y e. e))
+    c.read_pair-asked.auto.a c.read_pair-asked.auto.b
 
-pub returns : goal.returns
-returns c =
-    answered_pair c.read_pair-parsed.ensures c.in-Pair.is
+pub returns-else-is_none : goal.returns-else-is_none
+returns-else-is_none c = answered_pair c.if-is_none.ensures c.read_pair-asked.ensures

@@ -1,47 +1,82 @@
--- `mesh::six::six_of` meets its contract, by the invariant `SixSo`. Assumes nothing.
-use mathlib.Core.Path.{refl}
-use native.Mathlib.Omega.{arith}
-use mir.Syntax.{w64}
+-- `six_of` meets its contract, by the invariant `SixSo`: what is lent are a band's two traces and its part of the strips. (What `by_rule`
+-- asks stands first, since that is what a wrong program with one area twice does not show.) Assumes nothing.
+use Rattle.std.proofs.Common.{◌≡◌, suc, ◌+◌, ◌<◌, length, ap, ◌∙◌, w32, w64, arith}
+use Rattle.trace.specs.Points.{twice_area}
+use Rattle.stack.specs.Entries.{trace_of, band_start}
 use Rattle.whole.proofs.Machine.{held, fits_holds}
-use Rattle.stack.proofs.Laying.{laid_long}
-use Rattle.mesh.proofs.SixLaws.{twenty, ends_within, six_begun, six_more, six_done, sum_held, areas_held}
+use Rattle.stack.proofs.StackLaws.{band_ends, band_inside, band_cut}
+use Rattle.mesh.proofs.SixLaws.{rise_held, rise_read, rise_within, band_joined, band_areas_are, upper_area, band_ruled}
+use Rattle.mesh.proofs.SixLaws.{six_begun, six_more, six_done, sum_held, areas_held}
 use Rattle.mesh.proofs.six.six_of.Goals as goal
 
-pub layer_area-lower-requires : goal.layer_area-lower-requires
-layer_area-lower-requires c = let f = c.requires.stack in (f, omega (arith, f.layers.two, laid_long c.args.stack))
+pub by_rule-six-requires : goal.by_rule-six-requires
+by_rule-six-requires c =
+    let so = c.loop-k in
+    let es = c.args.layers.now in
+    let band = c.band_at-band.ensures in
+    let h : suc so.k < length es = omega arith in
+    let inside = band_inside es so.k so.invariant.start band c.args.strips.now h c.requires.strips.long in
+    let part = band_cut es so.k so.invariant.start band c.args.strips.now (omega (arith, inside)) in
+    let upper = upper_area c.requires h band c.trace_of-above.ensures c.twice_area-upper.ensures in (
+      band_joined c.requires h band c.trace_of-below.ensures c.trace_of-above.ensures part,
+      rise_within c.requires h band,
+      (held w64 (areas_held c.requires so.invariant h upper) tt).is
+          ∙ band_areas_are c.requires h band c.trace_of-below.ensures c.trace_of-above.ensures part,
+    )
 
 pub loop-k-init : goal.loop-k-init
-loop-k-init c = (six_begun c.requires c.layer_area-lower.ensures, refl)
+loop-k-init c =
+    six_begun c.requires
+    (c.twice_area-lower.ensures ∙ ap twice_area (c.trace_of.ensures ∙ ap (trace_of c.args.coords.now) c.layer_at.ensures))
 
-pub overflow_add-k : goal.overflow_add-k
-overflow_add-k c = omega (arith, c.loop-k.invariant.0.here, twenty c.requires)
+pub overflow_add-to : goal.overflow_add-to
+overflow_add-to c =
+    let so = c.loop-k in
+    let long = c.requires.strips.long in
+    let inside = band_inside c.args.layers.now so.k so.invariant.start c.band_at-band.ensures c.args.strips.now (omega arith) long in
+    omega (arith, inside)
 
-pub layer_area-upper-requires : goal.layer_area-upper-requires
-layer_area-upper-requires c = (c.requires.stack, omega arith)
-
-pub band_six-six-requires : goal.band_six-six-requires
-band_six-six-requires c =
-    let areas = areas_held c.requires c.loop-k.invariant.0 (omega arith) c.layer_area-upper.ensures in
-    (c.requires, omega arith, c.loop-k.invariant.0.start, (held w64 areas tt).is)
+pub overflow_sub-rise : goal.overflow_sub-rise
+overflow_sub-rise c = fits_holds w32 (rise_held c.requires (omega arith) c.band_at-band.ensures) tt
 
 pub overflow_add-lower : goal.overflow_add-lower
-overflow_add-lower c = fits_holds w64 (areas_held c.requires c.loop-k.invariant.0 (omega arith) c.layer_area-upper.ensures) tt
+overflow_add-lower c =
+    let h : suc c.loop-k.k < length c.args.layers.now = omega arith in
+    let upper = upper_area c.requires h c.band_at-band.ensures c.trace_of-above.ensures c.twice_area-upper.ensures in
+    fits_holds w64 (areas_held c.requires c.loop-k.invariant h upper) tt
+
+pub slice_bounds-by_rule-end : goal.slice_bounds-by_rule-end
+slice_bounds-by_rule-end c =
+    let so = c.loop-k in
+    let long = c.requires.strips.long in
+    let inside = band_inside c.args.layers.now so.k so.invariant.start c.band_at-band.ensures c.args.strips.now (omega arith) long in
+    omega (arith, inside)
 
 pub overflow_add-six : goal.overflow_add-six
 overflow_add-six c =
-    fits_holds w64 (sum_held c.requires c.loop-k.invariant.0 (omega arith) c.band_six-six.ensures) tt
-
-pub band_end-at-requires : goal.band_end-at-requires
-band_end-at-requires c =
-    let f = c.requires in
-    (omega arith, twenty f, c.loop-k.invariant.0.start, ends_within f c.loop-k.k (omega arith))
-
-pub overflow_add-k-in-loop-k-2 : goal.overflow_add-k-in-loop-k-2
-overflow_add-k-in-loop-k-2 c = omega (arith, twenty c.requires)
+    let so = c.loop-k in
+    let es = c.args.layers.now in
+    let band = c.band_at-band.ensures in
+    let h : suc so.k < length es = omega arith in
+    let inside = band_inside es so.k so.invariant.start band c.args.strips.now h c.requires.strips.long in
+    let part = band_cut es so.k so.invariant.start band c.args.strips.now (omega (arith, inside)) in
+    let rise = rise_read c.requires h band in
+    let six = band_ruled c.requires h band c.trace_of-below.ensures c.trace_of-above.ensures part rise c.by_rule-six.ensures in
+    fits_holds w64 (sum_held c.requires so.invariant h six) tt
 
 pub loop-k-preserved : goal.loop-k-preserved
 loop-k-preserved c =
-    (six_more c.requires c.loop-k.invariant.0 (omega arith) c.layer_area-upper.ensures c.band_six-six.ensures c.band_end-at.ensures, refl)
+    let so = c.loop-k in
+    let es = c.args.layers.now in
+    let band = c.band_at-band.ensures in
+    let h : suc so.k < length es = omega arith in
+    let inside = band_inside es so.k so.invariant.start band c.args.strips.now h c.requires.strips.long in
+    let next : so.at + c.steps.result ≡ band_start es (suc so.k) = omega (arith, inside, band_ends es so.k so.invariant.start band) in
+    let upper = upper_area c.requires h band c.trace_of-above.ensures c.twice_area-upper.ensures in
+    let part = band_cut es so.k so.invariant.start band c.args.strips.now (omega (arith, inside)) in
+    let rise = rise_read c.requires h band in
+    let six = band_ruled c.requires h band c.trace_of-below.ensures c.trace_of-above.ensures part rise c.by_rule-six.ensures in
+    six_more c.requires so.invariant h upper six next
 
 pub returns : goal.returns
-returns c = six_done c.requires (omega (arith, c.loop-k.invariant.0.here)) c.loop-k.invariant.0
+returns c = six_done c.requires (omega arith) c.loop-k.invariant

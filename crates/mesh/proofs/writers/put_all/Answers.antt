@@ -11,16 +11,6 @@ overflow_mul-bottom_at c =
     let all = capped c.requires c.layer_at-bottom.ensures c.layer_at-top.ensures in
     omega (arith, whole_room all, c.well_formed)
 
-pub overflow_sub-top_at : goal.overflow_sub-top_at
-overflow_sub-top_at c =
-    let all = capped c.requires c.layer_at-bottom.ensures c.layer_at-top.ensures in
-    omega (arith, bottom_drawn all)
-
-pub overflow_mul-top_at : goal.overflow_mul-top_at
-overflow_mul-top_at c =
-    let all = capped c.requires c.layer_at-bottom.ensures c.layer_at-top.ensures in
-    omega (arith, whole_room all, c.well_formed)
-
 pub overflow_add-top_at : goal.overflow_add-top_at
 overflow_add-top_at c =
     let all = capped c.requires c.layer_at-bottom.ensures c.layer_at-top.ensures in

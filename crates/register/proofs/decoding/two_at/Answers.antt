@@ -1,4 +1,5 @@
 -- `register::decoding::two_at` meets its contract. Assumes nothing.
+use mathlib.Core.Path.{◌∙◌}
 use native.Mathlib.Omega.{arith}
 use Rattle.register.proofs.DecodeLaws.{two_at}
 use Rattle.register.proofs.decoding.two_at.Goals as goal
@@ -6,4 +7,4 @@ use Rattle.register.proofs.decoding.two_at.Goals as goal
 pub returns : goal.returns
 returns c =
     let a = c.args in
-    (two_at a.list.now a.at _ _ c.byte_at.ensures.0 c.byte_at-2.ensures.0, omega arith)
+    (c.from.ensures ∙ c.from_le_bytes.ensures ∙ two_at a.list.now a.at c.bytes_at.result (λ k h. c.bytes_at.ensures k h), omega (arith, c.from_le_bytes.type_inv, c.from.ensures))

@@ -18,23 +18,14 @@ loop-k-init c =
     let l = numbers a.many (drop a.at a.contents.now) in
     copy_begun l a.out.now (omega (arith, numbers_long a.many (drop a.at a.contents.now), c.requires.1))
 
-pub bounds-out-k : goal.bounds-out-k
-bounds-out-k c =
-    let so = c.loop-k.invariant in
-    let a = c.args in
-    omega (arith, so.room, so.long, numbers_long a.many (drop a.at a.contents.now))
-
 pub loop-k-preserved : goal.loop-k-preserved
 loop-k-preserved c =
     let a = c.args in
     let k = c.loop-k.k in
     let r = drop a.at a.contents.now in
     copy_more c.loop-k.invariant (pos 0) _ (omega (arith, numbers_long a.many r))
-    (returned w32 c.number_at-number.ensures c.number_at-number.type_inv
+    (returned w32 c.number_at.ensures c.number_at.type_inv
     ∙ sym (numbers_at_lem a.many r k (omega arith) ∙ ap number (drop-drop (4 * k) a.at a.contents.now)))
-
-pub shape_of-out : goal.shape_of-out
-shape_of-out c = c.loop-k.invariant.long
 
 pub returns : goal.returns
 returns c =

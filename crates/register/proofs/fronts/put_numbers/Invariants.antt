@@ -1,4 +1,3 @@
-use Prim.Native.Nat.{◌-◌}
 use lib.ListN.{drop}
 use Rattle.register.specs.Decoding.{numbers}
 use Rattle.whole.proofs.Filling.{CopySo}
@@ -6,6 +5,3 @@ use Rattle.register.proofs.fronts.put_numbers.Given as goal
 
 abbrev pub invariant-loop-k : goal.invariant-loop-k
 invariant-loop-k l = CopySo (numbers l.many (drop l.at l.contents)) l.k l.initial.out l.out
-
-abbrev pub decreases-loop-k : goal.decreases-loop-k
-decreases-loop-k l = l.many - l.k

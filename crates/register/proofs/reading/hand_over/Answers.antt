@@ -1,71 +1,41 @@
 -- `register::reading::hand_over` meets its contract: each `return` is one case of 01's order. Assumes nothing.
-use Rattle.stack.specs.Laid.{laid}
-use Rattle.stack.specs.Faults.{AcceptedStack}
-use Rattle.stack.specs.Strips.{StripsRight}
-use Rattle.stack.proofs.Told.{stack_stopped, stack_fit, strips_stopped, strips_right}
-use Rattle.register.specs.Reading.{lent, EnoughFor}
+use Rattle.std.proofs.lemmas.Result.{err_from_is_err_and}
+use native.Mathlib.Omega.{arith}
+use Rattle.stack.proofs.Cases.{stack_stopped, strips_stopped}
+use Rattle.stack.proofs.Exact.{fit_exactly, whole_exactly}
+use Rattle.register.specs.Reading.{lent}
 use Rattle.register.proofs.ReadGates.{stack_wrong, no_room, strips_wrong}
-use Rattle.register.proofs.ReadCases.{short, enough, all_handed}
+use Rattle.register.proofs.ReadCases.{all_handed}
 use Rattle.register.proofs.reading.hand_over.Goals as goal
+use Rattle.register.proofs.reading.hand_over.Goals.{then-layers-held-via-then-layers-held, then-layers-held-via-else-layers-held+then-coords-held, then-layers-held-via-else-layers-held+else-coords-held+then-strips-held}
 
-pub returns-in-Refused : goal.returns-in-Refused
-returns-in-Refused c =
-    let judged = c.judge_stack.ensures in
-    rw c.lost.ensures (stack_wrong (stack_stopped judged c.in-Refused.is))
+pub returns-in_err-judge_stack : goal.returns-in_err-judge_stack
+returns-in_err-judge_stack c =
+    let p = err_from_is_err_and c.from_residual.result c.from_residual.ensures.1 in
+    rw (p.1, p.2) (stack_wrong (stack_stopped c.in_err-judge_stack.ensures))
 
-pub returns-then-room-stack : goal.returns-then-room-stack
-returns-then-room-stack c =
-    let accepted : let a = c.args in
-    AcceptedStack (laid a.stack) a.numbers.now = stack_fit c.judge_stack.ensures c.in-Fit.is
-    in
+pub returns-then-layers-held : goal.returns-then-layers-held
+returns-then-layers-held c =
+    let accepted = ((fit_exactly _).0 c.in_ok-judge_stack.ensures).0 in
     let a = c.args in
-    rw (c.lost-then-room-stack.ensures, c.refuse.ensures)
-    (no_room accepted
-    (short a.stack a.room a.numbers.now a.coords.now a.bytes.now a.strips.now c.if-room-stack.true))
+    rw c.refuse.ensures
+    (no_room {l = a.held.strips.now} {x = lent a.layers.now a.coords.now a.strips.now} accepted
+    (λ e. elim c.then-layers-held.branch [
+      | then-layers-held-via-then-layers-held w ↦ omega (arith, e.for_entries)
+      | then-layers-held-via-else-layers-held+then-coords-held w ↦ omega (arith, e.for_coords)
+      | then-layers-held-via-else-layers-held+else-coords-held+then-strips-held w ↦ omega (arith, e.for_strips)
+    ]))
 
-pub returns-in-Refused-judge_strips : goal.returns-in-Refused-judge_strips
-returns-in-Refused-judge_strips c =
-    let accepted : let a = c.args in
-    AcceptedStack (laid a.stack) a.numbers.now = stack_fit c.judge_stack.ensures c.in-Fit.is
-    in
-    let roomy : let a = c.args in
-    EnoughFor (laid a.stack) a.numbers.now a.bytes.now (lent a.room a.coords.now a.strips.now) = let a = c.args in
-    enough a.stack a.room a.numbers.now a.coords.now a.bytes.now a.strips.now c.if-room-stack.false
-    in
-    let a = accepted in
-    let judged = c.judge_strips.ensures in
-    rw c.lost-in-Refused-judge_strips.ensures
-    (strips_wrong a roomy (strips_stopped judged a.layers c.in-Refused-judge_strips.is))
-
-pub copy_numbers-requires : goal.copy_numbers-requires
-copy_numbers-requires c =
-    let roomy : let a = c.args in
-    EnoughFor (laid a.stack) a.numbers.now a.bytes.now (lent a.room a.coords.now a.strips.now) = let a = c.args in
-    enough a.stack a.room a.numbers.now a.coords.now a.bytes.now a.strips.now c.if-room-stack.false
-    in
-    roomy.for_coords
-
-pub put_bytes-requires : goal.put_bytes-requires
-put_bytes-requires c =
-    let roomy : let a = c.args in
-    EnoughFor (laid a.stack) a.numbers.now a.bytes.now (lent a.room a.coords.now a.strips.now) = let a = c.args in
-    enough a.stack a.room a.numbers.now a.coords.now a.bytes.now a.strips.now c.if-room-stack.false
-    in
-    roomy.for_strips
+pub returns-in_err-judge_strips : goal.returns-in_err-judge_strips
+returns-in_err-judge_strips c =
+    let accepted = ((fit_exactly _).0 c.in_ok-judge_stack.ensures).0 in
+    let p = err_from_is_err_and c.from_residual-in_err-judge_strips.result c.from_residual-in_err-judge_strips.ensures.1 in
+    rw (p.1, p.2)
+    (strips_wrong accepted (record { for_entries = omega arith; for_coords = omega arith; for_strips = omega arith })
+    (strips_stopped accepted.layers c.in_err-judge_strips.ensures))
 
 pub returns : goal.returns
 returns c =
-    let accepted : let a = c.args in
-    AcceptedStack (laid a.stack) a.numbers.now = stack_fit c.judge_stack.ensures c.in-Fit.is
-    in
-    let roomy : let a = c.args in
-    EnoughFor (laid a.stack) a.numbers.now a.bytes.now (lent a.room a.coords.now a.strips.now) = let a = c.args in
-    enough a.stack a.room a.numbers.now a.coords.now a.bytes.now a.strips.now c.if-room-stack.false
-    in
-    let right : let a = c.args in
-    StripsRight (laid a.stack) a.bytes.now = strips_right c.judge_strips.ensures c.in-Whole.is
-    in
-    let a = c.args in
-    all_handed a.stack a.room a.numbers.now a.coords.now a.bytes.now a.strips.now c.requires
-    accepted roomy right
-    c.copy_numbers.ensures c.put_bytes.ensures
+    all_handed ((fit_exactly _).0 c.in_ok-judge_stack.ensures).0
+    (record { for_entries = omega arith; for_coords = omega arith; for_strips = omega arith })
+    (whole_exactly.0 c.in_ok-judge_strips.ensures).1 c.fill_front.ensures c.fill_front-2.ensures c.fill_front-3.ensures

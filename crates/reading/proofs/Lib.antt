@@ -1,0 +1,2 @@
+-- The one outcome of reading.
+pub mod Unique
