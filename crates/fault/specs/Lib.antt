@@ -1,4 +1,5 @@
--- The refusals: their numbers, and the order in which they are given.
+-- The refusals: their numbers, the order in which they are given, and how one is printed.
 pub mod Gates
 pub mod Number
+pub mod Printed
 pub mod Status

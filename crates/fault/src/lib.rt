@@ -1,9 +1,10 @@
 // The refusals by name, with 01's number for each ("What comes back"), and what every refusal is: a fault and a place.
 #![tactic(auto)]
 
-ghost use Rattle.std.specs.Prelude.{◌≡◌};
+ghost use Rattle.std.specs.Prelude.{◌≡◌, Some};
 ghost use Rattle.fault.specs.Gates.{at};
 ghost use Rattle.fault.specs.Number.{number_of};
+ghost use Rattle.fault.specs.Printed.{printed};
 ghost use Rattle.fault.specs.Status.{success, none_left, status_of};
 
 use std::error::Error;
@@ -98,6 +99,8 @@ impl From<Refusal> for Status {
 
 // The line that a program prints of a refusal.
 impl fmt::Display for Refusal {
+    ghost output = { λ r. Some (printed r) };
+
     fn fmt<W: fmt::Write>(&self, f: &mut fmt::Formatter<W>) -> fmt::Result {
         let number = u8::from(self.fault);
         let place = self.place;

@@ -6,7 +6,7 @@ use Prim.Native.Nat.{ℕ, suc, ◌+◌, ◌-◌, ◌*◌, ◌%◌, ◌≤◌, �
 use native.Mathlib.Nat.{add-zero, mod_self, mod-eq_of_lt}
 use native.Mathlib.Numerals.{add-one}
 use native.Mathlib.Omega.{arith}
-use lib.ListN.{length, get_or, drop, length-append, length-drop}
+use lib.ListN.{length, get_or, drop, set, length-append, length-drop}
 use lib.Seq.{drop-length, drop-cons}
 use Rattle.whole.specs.Filled.{Filled}
 use Rattle.whole.proofs.Parts.{part_lent}
@@ -33,10 +33,22 @@ unfolding numbers
 numbers_length [] = refl
 numbers_length (t ∷ ts) = omega (arith, numbers_length ts)
 
--- one triangle: the part p that its numbers are copied to, and the rest
-pub put_filled : {u v w : ℕ} (l : List ℕ) {p : List ℕ} → p ≡ u ∷ v ∷ w ∷ [] → Put (tri u v w ∷ []) l (p ++ drop 3 l)
+-- one triangle, number by number
+pub put_filled : (l : List ℕ) (u v w : ℕ) → 3 ≤ length l → Put (tri u v w ∷ []) l (set (set (set l 0 u) 1 v) 2 w)
 unfolding numbers
-put_filled l e = record { filled = record { filled = rw e refl } }
+put_filled [] u v w h = absurd (none h)
+  where
+    none : 3 ≤ 0 → ⊥
+    none h = omega arith
+put_filled (a ∷ []) u v w h = absurd (none h)
+  where
+    none : 3 ≤ 1 → ⊥
+    none h = omega arith
+put_filled (a ∷ b ∷ []) u v w h = absurd (none h)
+  where
+    none : 3 ≤ 2 → ⊥
+    none h = omega arith
+put_filled (a ∷ b ∷ c ∷ l) u v w h = record { filled = record { filled = refl } }
 
 -- ---- what is written so far
 

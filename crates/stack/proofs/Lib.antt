@@ -2,6 +2,7 @@
 pub mod StackLaws
 pub mod Exact
 pub mod Cases
+pub mod Laying
 mod StripLaws
 mod FaultTests
 mod StackCases

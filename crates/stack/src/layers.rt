@@ -7,7 +7,7 @@ ghost use Rattle.stack.specs.Faults.{LayersRight};
 use crate::{Band, Layer};
 
 // What is read past the last entry.
-const NONE: Layer = Layer {
+pub(crate) const NONE: Layer = Layer {
     plane: 0,
     first: 0,
     count: 0,

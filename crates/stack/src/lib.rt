@@ -1,10 +1,12 @@
 // A stack of layers over one coordinate list, and the strips of its bands. A stack is a lent slice of entries.
 #![tactic(auto)]
 
+pub use by_value::{Stack, no_layers, with_layer};
 pub use judging::judge_stack;
 pub use layers::{band_at, band_count, layer_at, trace_of};
 pub use strips::{is_strip, judge_strips};
 
+mod by_value;
 mod judging;
 mod layers;
 mod strips;

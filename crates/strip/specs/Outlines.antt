@@ -1,4 +1,4 @@
--- Inner: the worths that two outlines give. No public contract but that of `worth` cites this file.
+-- Inner: the worths that two outlines give. No public contract cites this file.
 use Rattle.std.specs.Prelude.{ℤ, ◌-ℤ◌, ◌*ℤ◌}
 use Rattle.ways.specs.Value.{Worths}
 use Rattle.trace.specs.declared.outline.Corner.{Corner}

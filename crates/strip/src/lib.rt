@@ -3,8 +3,7 @@
 
 mod walking;
 
-ghost use Rattle.std.specs.Prelude.{◌≡◌};
-ghost use Rattle.strip.specs.Outlines.{crossed};
+ghost use Rattle.std.specs.Prelude.{◌≡◌, ◌*ℤ◌, ◌-ℤ◌};
 ghost use Rattle.strip.specs.Pair.{PairJudged};
 ghost use Rattle.strip.specs.Judging.{StripJudged};
 ghost use Rattle.strip.specs.Weighed.{Weighed};
@@ -76,7 +75,7 @@ pub fn weigh(a: &[i32], b: &[i32], strip: &[u8]) -> i64
 // What a step is worth: the other side's point with the own segment. 01's two rules are this one, with the sides exchanged.
 #[tactic(auto, using(whole::proofs::Machine::read_back))]
 pub fn worth(across: Corner, own: Corner) -> i64
-    ensures { result ≡ crossed across own }
+    ensures { result ≡ across.x *ℤ own.dy -ℤ across.y *ℤ own.dx }
 {
     cross(across.x, across.y, own.dx, own.dy)
 }

@@ -24,18 +24,20 @@ fn step(so_far: Walked, lower: &Outline, upper: &Outline, byte: u8) -> Option<Wa
     if 1 < byte {
         return None;
     }
-    let a = lower.corner(i);
-    let b = upper.corner(j);
     if byte == 0 {
         if i == lower.count {
             return None;
         }
+        let a = lower.corner(i);
+        let b = upper.corner(j);
         let value = value + worth(b, a);
         return Some(Walked { i: i + 1, j, value });
     }
     if j == upper.count {
         return None;
     }
+    let a = lower.corner(i);
+    let b = upper.corner(j);
     let value = value + worth(a, b);
     Some(Walked { i, j: j + 1, value })
 }

@@ -3,7 +3,6 @@
 use mathlib.Core.Path.{◌≡◌, refl, sym, ap, ap₂, ◌∙◌, subst}
 use mathlib.Core.Bool.{Bool, true, false, cond}
 use mathlib.Core.List.{List, map}
-use mathlib.Core.Logic.{◌⊎◌, inl, inr}
 use Prim.Native.Nat.{ℕ, zero, suc, ◌+◌, ◌*◌, ◌/◌, ◌%◌, ◌≤◌, ◌<◌, min}
 use native.Mathlib.Decide.{ℕ_discrete, dec_le}
 use native.Mathlib.Omega.{arith}
@@ -19,7 +18,7 @@ use Rattle.trace.specs.declared.outline.Outline.{Outline}
 use Rattle.trace.specs.Points.{count, px, py}
 use Rattle.trace.specs.Judged.{in_range}
 use Rattle.trace.specs.Faults.{Accepted}
-use Rattle.trace.specs.Outline.{fair, fairly, cornered, no_corner, of_lists, corner, Follows, Outlined, Ranged, CornerWithin}
+use Rattle.trace.specs.Outline.{fair, fairly, cornered, sided, no_corner, of_lists, corner, Follows, Outlined, Ranged, CornerWithin}
 use Rattle.trace.proofs.PointLaws.{px_at, py_at, px_round, py_round, range_within, within_range, accepted_x, accepted_y}
 
 -- ---- what is read
@@ -75,11 +74,11 @@ module _ (c : List ℤ) where
   unfolding py
   fairly_y k = within_at (2 * (k % count (fairly c)) + 1)
 
-  none_x : read ≡ 0 → (k : ℕ) → px (fairly c) k ≡ pos 0
+  pub none_x : read ≡ 0 → (k : ℕ) → px (fairly c) k ≡ pos 0
   unfolding px
   none_x e k = fairly_none e (2 * (k % count (fairly c)))
 
-  none_y : read ≡ 0 → (k : ℕ) → py (fairly c) k ≡ pos 0
+  pub none_y : read ≡ 0 → (k : ℕ) → py (fairly c) k ≡ pos 0
   unfolding py
   none_y e k = fairly_none e (2 * (k % count (fairly c)) + 1)
 
@@ -100,7 +99,7 @@ fairly_same {c} a =
     get_or_fair c i ∙ fair_same (get_or c i (pos 0)) (a.in_range i in_c))
 
 -- a corner by its four numbers
-of_four : {p q : Corner} → p.x ≡ q.x → p.y ≡ q.y → p.dx ≡ q.dx → p.dy ≡ q.dy → p ≡ q
+pub of_four : {p q : Corner} → p.x ≡ q.x → p.y ≡ q.y → p.dx ≡ q.dx → p.dy ≡ q.dy → p ≡ q
 of_four {p} {q} a b d e =
     ap₂ (λ (x y : ℤ). of x y p.dx p.dy) a b ∙ ap₂ (λ (dx dy : ℤ). of q.x q.y dx dy) d e
   where
@@ -130,38 +129,7 @@ begun f = record {
     none : (i : ℕ) → i < 0 → ⊥
     none i h = omega arith
 
--- a corner put down
-module _ (x y dx dy : List ℤ) (k : ℕ) (v : Corner) where
-  put_here : length x ≡ 251 → length y ≡ 251 → length dx ≡ 251 → length dy ≡ 251 → k < 251
-      → of_lists (set x k v.x) (set y k v.y) (set dx k v.dx) (set dy k v.dy) k ≡ v
-  put_here a b d e h =
-      of_four (get_or-set_same x k v.x (pos 0) (omega (arith, a))) (get_or-set_same y k v.y (pos 0) (omega (arith, b)))
-      (get_or-set_same dx k v.dx (pos 0) (omega (arith, d))) (get_or-set_same dy k v.dy (pos 0) (omega (arith, e)))
-
-  put_other : (i : ℕ) → (i ≡ k → ⊥)
-      → of_lists (set x k v.x) (set y k v.y) (set dx k v.dx) (set dy k v.dy) i ≡ of_lists x y dx dy i
-  put_other i h =
-      of_four (get_or-set_other x k i v.x (pos 0) h) (get_or-set_other y k i v.y (pos 0) h)
-      (get_or-set_other dx k i v.dx (pos 0) h) (get_or-set_other dy k i v.dy (pos 0) h)
-
-pub one_more : {f : ℕ → Corner} {k : ℕ} {x y dx dy : List ℤ} (v : Corner) → Follows f k x y dx dy → k < 251 → v ≡ f k
-    → Follows f (suc k) (set x k v.x) (set y k v.y) (set dx k v.dx) (set dy k v.dy)
-one_more {f} {k} {x} {y} {dx} {dy} v s h e = record {
-  long_x = length-set x k v.x ∙ s.long_x;
-  long_y = length-set y k v.y ∙ s.long_y;
-  long_dx = length-set dx k v.dx ∙ s.long_dx;
-  long_dy = length-set dy k v.dy ∙ s.long_dy;
-  done = λ i l. value i l (ℕ_discrete i k);
-  behind = λ i l. put_other x y dx dy k v i (λ q. omega arith) ∙ s.behind i (omega arith);
-}
-  where
-    value : (i : ℕ) → i < suc k → Dec (i ≡ k) → of_lists (set x k v.x) (set y k v.y) (set dx k v.dx) (set dy k v.dy) i ≡ f i
-    value i l (yes q) =
-        ap (of_lists (set x k v.x) (set y k v.y) (set dx k v.dx) (set dy k v.dy)) q
-        ∙ put_here x y dx dy k v s.long_x s.long_y s.long_dx s.long_dy h ∙ e ∙ ap f (sym q)
-    value i l (no q) = put_other x y dx dy k v i q ∙ s.done i (omega arith)
-
--- the first point again, whose segment is none
+-- a point put down, whose segment is none
 pub once_again : {f : ℕ → Corner} {k : ℕ} {x y dx dy : List ℤ} (vx vy : ℤ) → Follows f k x y dx dy → k < 251
     → record { x = vx; y = vy; dx = pos 0; dy = pos 0 } ≡ f k → Follows f (suc k) (set x k vx) (set y k vy) dx dy
 once_again {f} {k} {x} {y} {dx} {dy} vx vy s h e = record {
@@ -187,6 +155,49 @@ once_again {f} {k} {x} {y} {dx} {dy} vx vy s h e = record {
         ∙ e ∙ ap f (sym q)
     value i l (no q) = other i q ∙ s.done i (omega arith)
 
+-- whether i is below k is whether it is below the next number, but at k
+below_next : (i k : ℕ) → (i ≡ k → ⊥) → ltb i k ≡ ltb i (k + 1)
+below_next i k h = go (dec_le (suc i) k)
+  where
+    go : Dec (suc i ≤ k) → ltb i k ≡ ltb i (k + 1)
+    go (yes l) = lt-ltb i k l ∙ sym (lt-ltb i (k + 1) (omega arith))
+    go (no l) = le-ltb i k (omega arith) ∙ sym (le-ltb i (k + 1) (omega arith))
+
+-- a segment put down
+module _ (c : List ℤ) (n k : ℕ) {x y dx dy : List ℤ} (vx vy : ℤ) (s : Follows (sided c k) n x y dx dy) (h : k < n) (few : k < 251)
+    (ex : vx ≡ px c (k + 1) -ℤ px c k) (ey : vy ≡ py c (k + 1) -ℤ py c k) where
+  other_side : (i : ℕ) → (i ≡ k → ⊥) → of_lists x y (set dx k vx) (set dy k vy) i ≡ of_lists x y dx dy i
+  other_side i q = of_four refl refl (get_or-set_other dx k i vx (pos 0) q) (get_or-set_other dy k i vy (pos 0) q)
+
+  same_side : (i : ℕ) → (i ≡ k → ⊥) → sided c k i ≡ sided c (k + 1) i
+  unfolding sided
+  same_side i q =
+      of_four refl refl (ap (λ (t : Bool). cond t (px c (i + 1) -ℤ px c i) (pos 0)) (below_next i k q))
+      (ap (λ (t : Bool). cond t (py c (i + 1) -ℤ py c i) (pos 0)) (below_next i k q))
+
+  this_side : of_lists x y (set dx k vx) (set dy k vy) k ≡ sided c (k + 1) k
+  unfolding sided
+  this_side =
+      let was = s.done k h in
+      let now : ltb k (k + 1) ≡ true = lt-ltb k (k + 1) (omega arith) in
+      of_four (ap (λ (q : Corner). q.x) was) (ap (λ (q : Corner). q.y) was)
+      (get_or-set_same dx k vx (pos 0) (omega (arith, s.long_dx)) ∙ ex ∙ sym (ap (λ (t : Bool). cond t (px c (k + 1) -ℤ px c k) (pos 0)) now))
+      (get_or-set_same dy k vy (pos 0) (omega (arith, s.long_dy)) ∙ ey ∙ sym (ap (λ (t : Bool). cond t (py c (k + 1) -ℤ py c k) (pos 0)) now))
+
+  pub segment_more : Follows (sided c (k + 1)) n x y (set dx k vx) (set dy k vy)
+  segment_more = record {
+    long_x = s.long_x;
+    long_y = s.long_y;
+    long_dx = length-set dx k vx ∙ s.long_dx;
+    long_dy = length-set dy k vy ∙ s.long_dy;
+    done = λ i l. value i l (ℕ_discrete i k);
+    behind = λ i l. other_side i (λ q. omega arith) ∙ s.behind i l;
+  }
+    where
+      value : (i : ℕ) → i < n → Dec (i ≡ k) → of_lists x y (set dx k vx) (set dy k vy) i ≡ sided c (k + 1) i
+      value i l (yes q) = ap (of_lists x y (set dx k vx) (set dy k vy)) q ∙ this_side ∙ ap (sided c (k + 1)) (sym q)
+      value i l (no q) = other_side i q ∙ s.done i l ∙ same_side i q
+
 pub as_many : {f : ℕ → Corner} {m n : ℕ} {x y dx dy : List ℤ} → m ≡ n → Follows f m x y dx dy → Follows f n x y dx dy
 as_many {f} {x = x} {y} {dx} {dy} e s = subst (λ (k : ℕ). Follows f k x y dx dy) e s
 
@@ -206,43 +217,15 @@ module _ (c : List ℤ) {m : ℕ} (n : m ≡ min (length c / 2) 250) where
   pub round_y : py (fairly c) m ≡ py (fairly c) 0
   round_y = py_round (fairly c) m (fairly_count c ∙ sym n)
 
-  -- the number of the next point, where behind the last comes the first
-  abbrev pub IsNext : ℕ → ℕ → Type 0
-  IsNext k next = ((k + 1 < m) × (next ≡ k + 1)) ⊎ ((m ≤ k + 1) × (next ≡ 0))
+  -- a point that is read, and the first one again
+  pub point_is : (k : ℕ) {vx vy : ℤ} → vx ≡ px (fairly c) k → vy ≡ py (fairly c) k → record { x = vx; y = vy; dx = pos 0; dy = pos 0 } ≡ sided (fairly c) 0 k
+  unfolding sided
+  point_is k ex ey = rw (le-ltb k 0 (omega arith)) (of_four ex ey refl refl)
 
-  pub next_below : {k next : ℕ} → k < m → IsNext k next → next < m
-  next_below h (inl x) = omega (arith, x.1, x.0)
-  next_below h (inr x) = omega (arith, x.1)
-
-  pub next_x : {k next : ℕ} → k < m → IsNext k next → fair (get_or c (2 * next) (pos 0)) ≡ px (fairly c) (k + 1)
-  next_x {k} {next} h i = reads_x next (next_below h i) ∙ go i
-    where
-      go : IsNext k next → px (fairly c) next ≡ px (fairly c) (k + 1)
-      go (inl x) = ap (px (fairly c)) x.1
-      go (inr x) = ap (px (fairly c)) x.1 ∙ sym round_x ∙ ap (px (fairly c)) (omega arith)
-
-  pub next_y : {k next : ℕ} → k < m → IsNext k next → fair (get_or c (2 * next + 1) (pos 0)) ≡ py (fairly c) (k + 1)
-  next_y {k} {next} h i = reads_y next (next_below h i) ∙ go i
-    where
-      go : IsNext k next → py (fairly c) next ≡ py (fairly c) (k + 1)
-      go (inl x) = ap (py (fairly c)) x.1
-      go (inr x) = ap (py (fairly c)) x.1 ∙ sym round_y ∙ ap (py (fairly c)) (omega arith)
-
-  -- a corner of two points, one behind the other
-  pub corner_is : {k : ℕ} {p : Corner} → k < m → p.x ≡ px (fairly c) k → p.y ≡ py (fairly c) k
-      → p.dx ≡ px (fairly c) (k + 1) -ℤ px (fairly c) k → p.dy ≡ py (fairly c) (k + 1) -ℤ py (fairly c) k → p ≡ cornered (fairly c) k
-  unfolding cornered
-  corner_is {k} {p} h ex ey ed ee =
-      let in_c : ltb k (count (fairly c)) ≡ true = lt-ltb k (count (fairly c)) (omega (arith, fairly_count c)) in
-      rw in_c (of_four ex ey ed ee)
-
-  -- the first point again
-  pub closing_is : {x y dx dy : List ℤ} {vx vy : ℤ} → Follows (cornered (fairly c)) m x y dx dy → vx ≡ get_or x 0 (pos 0) → vy ≡ get_or y 0 (pos 0)
-      → record { x = vx; y = vy; dx = pos 0; dy = pos 0 } ≡ cornered (fairly c) m
-  unfolding cornered
-  closing_is {x} {y} s ex ey =
-      let at_end : ltb m (count (fairly c)) ≡ false = le-ltb m (count (fairly c)) (omega (arith, fairly_count c)) in
-      rw at_end (of_four (ex ∙ first_x (ℕ_discrete m 0)) (ey ∙ first_y (ℕ_discrete m 0)) refl refl)
+  pub closing_is : {x y dx dy : List ℤ} {vx vy : ℤ} → Follows (sided (fairly c) 0) m x y dx dy → vx ≡ get_or x 0 (pos 0) → vy ≡ get_or y 0 (pos 0)
+      → record { x = vx; y = vy; dx = pos 0; dy = pos 0 } ≡ sided (fairly c) 0 m
+  unfolding sided
+  closing_is {x} {y} s ex ey = point_is m (ex ∙ first_x (ℕ_discrete m 0)) (ey ∙ first_y (ℕ_discrete m 0))
     where
       first_x : Dec (m ≡ 0) → get_or x 0 (pos 0) ≡ px (fairly c) m
       first_x (yes z) = ap (λ (q : Corner). q.x) (s.behind 0 (omega arith)) ∙ sym (none_x c (sym n ∙ z) m)
@@ -251,6 +234,20 @@ module _ (c : List ℤ) {m : ℕ} (n : m ≡ min (length c / 2) 250) where
       first_y : Dec (m ≡ 0) → get_or y 0 (pos 0) ≡ py (fairly c) m
       first_y (yes z) = ap (λ (q : Corner). q.y) (s.behind 0 (omega arith)) ∙ sym (none_y c (sym n ∙ z) m)
       first_y (no z) = ap (λ (q : Corner). q.y) (s.done 0 (omega arith)) ∙ sym round_y
+
+  -- the points that a segment is taken from
+  pub point_held : (j i : ℕ) {x y dx dy : List ℤ} → Follows (sided (fairly c) j) (suc m) x y dx dy → i ≤ m
+      → (get_or x i (pos 0) ≡ px (fairly c) i) × (get_or y i (pos 0) ≡ py (fairly c) i)
+  unfolding sided
+  point_held j i s h = let is = s.done i (omega arith) in (ap (λ (q : Corner). q.x) is, ap (λ (q : Corner). q.y) is)
+
+  -- all segments put down
+  pub all_sided : (k : ℕ) {x y dx dy : List ℤ} → k ≡ m → Follows (sided (fairly c) k) (suc m) x y dx dy
+      → Follows (cornered (fairly c)) (suc (count (fairly c))) x y dx dy
+  unfolding sided cornered
+  all_sided k {x} {y} {dx} {dy} e s =
+      let all : m ≡ count (fairly c) = n ∙ sym (fairly_count c) in
+      subst (λ (i : ℕ). Follows (sided (fairly c) i) (suc i) x y dx dy) all (subst (λ (i : ℕ). Follows (sided (fairly c) i) (suc m) x y dx dy) e s)
 
 module _ {c : List ℤ} {p : Outline} (o : Outlined c p) where
   -- what an outline's corners hold

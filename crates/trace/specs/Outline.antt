@@ -57,3 +57,12 @@ pub record CornerWithin (q : Corner) : Type 0 where
   pub y : Within 100000 q.y
   pub dx : Within 200000 q.dx
   pub dy : Within 200000 q.dy
+
+-- Inner: point k, with its segment if k is below n
+unfoldable pub sided : List ℤ → ℕ → ℕ → Corner
+sided c n k = record {
+  x = px c k;
+  y = py c k;
+  dx = cond (ltb k n) (px c (k + 1) -ℤ px c k) (pos 0);
+  dy = cond (ltb k n) (py c (k + 1) -ℤ py c k) (pos 0);
+}

@@ -1,7 +1,7 @@
 // The outline of a trace: its points, the first written again at the end, each with the segment to the next. Whoever adds up along a trace
 // reads them here, without a remainder. Another start, a shift or a sign would change this file and nothing else.
 ghost use Rattle.std.specs.Prelude.{◌≡◌, ◌+◌, ◌*◌, ◌/◌, ◌<◌, min, pos, length, get_or};
-ghost use Rattle.trace.specs.Outline.{fair, fairly, corner, cornered, Outlined};
+ghost use Rattle.trace.specs.Outline.{fair, fairly, corner, Outlined};
 
 use crate::{Point, in_range, point_at};
 
@@ -63,16 +63,19 @@ pub fn outline_of(coords: &[i32]) -> Outline
     let mut dx = [0i32; 251];
     let mut dy = [0i32; 251];
     for k in 0..count {
-        let corner = corner_at(coords, k, count);
-        x[k] = corner.x;
-        y[k] = corner.y;
-        dx[k] = corner.dx;
-        dy[k] = corner.dy;
+        let point = fair_point(coords, k);
+        x[k] = point.x;
+        y[k] = point.y;
     }
     let first_x = x[0];
     let first_y = y[0];
     x[count] = first_x;
     y[count] = first_y;
+    // Each point is read once, and its segment is taken from what was read: two plain loops, of which a processor does many turns at a time.
+    for k in 0..count {
+        dx[k] = x[k + 1] - x[k];
+        dy[k] = y[k + 1] - y[k];
+    }
     Outline {
         x,
         y,
@@ -87,22 +90,6 @@ pub fn points_read(numbers: usize) -> usize
     ensures { result ≡ min (numbers / 2) 250 }
 {
     (numbers / 2).min(250)
-}
-
-// Corner `k` of `count`. Behind the last point comes the first.
-fn corner_at(coords: &[i32], k: usize, count: usize) -> Corner
-    requires { (k < count) × (count ≡ min (length coords.now / 2) 250) }
-    ensures { result ≡ cornered (fairly coords.now) k }
-{
-    let next = if k + 1 < count { k + 1 } else { 0 };
-    let from = fair_point(coords, k);
-    let to = fair_point(coords, next);
-    Corner {
-        x: from.x,
-        y: from.y,
-        dx: to.x - from.x,
-        dy: to.y - from.y,
-    }
 }
 
 // Point `k`, where what is no coordinate reads 0.

@@ -10,3 +10,4 @@ pub mod Parts
 pub mod Telling
 pub mod Stages
 pub mod Filling
+pub mod Firstly

@@ -17,7 +17,8 @@ use mir.Syntax.{Width, w32, w64}
 use mir.Val.{Fits, SFits, to_z, of_z, sel, hbits}
 use mir.ValLaws.{to_z-of_z}
 use Rattle.whole.specs.Between.{Between, Within}
-use Rattle.whole.proofs.TestLaws.{true≢false, not_true_false}
+use Rattle.whole.specs.Tests.{eq_z}
+use Rattle.whole.proofs.TestLaws.{true≢false, not_true_false, eq_z_true, eq_eq_z}
 use Rattle.whole.proofs.Linear.{up_pos, dn_pos, up_negsuc, dn_negsuc}
 use Rattle.whole.proofs.Bounds.{up_le, dn_le, between, between_sum, between_sub, between_mul}
 
@@ -78,6 +79,20 @@ times a b = record { is = ap₂ (λ (x y : ℤ). x *ℤ y) a.is b.is; bounds = b
 -- a call's result read back: m is what the callee ensures, and fits by its type
 pub returned : (w : Width) {m z : ℤ} → m ≡ z → mag m < 2 ^ hbits w → to_z w (of_z w m) ≡ z
 returned w {m} e h = to_z-of_z w m (record { sfits = h }) ∙ e
+
+-- two signed words have the same bits exactly if they are the same number
+pub bits_equal : (w : Width) (a b : ℤ) → mag a < 2 ^ hbits w → mag b < 2 ^ hbits w → eqb (of_z w a) (of_z w b) ≡ eq_z a b
+bits_equal w a b f g = go (eq_z a b) refl
+  where
+    same : eqb (of_z w a) (of_z w b) ≡ true → a ≡ b
+    same e =
+        sym (to_z-of_z w a (record { sfits = f })) ∙ ap (λ (n : ℕ). to_z w n) (eqb-true (of_z w a) (of_z w b) e)
+        ∙ to_z-of_z w b (record { sfits = g })
+
+    go : (t : Bool) → eq_z a b ≡ t → eqb (of_z w a) (of_z w b) ≡ eq_z a b
+    go true e = eq-eqb (of_z w a) (of_z w b) (ap (λ (z : ℤ). of_z w z) (eq_z_true a b e)) ∙ sym e
+    go false e =
+        not_true_false (eqb (of_z w a) (of_z w b)) (λ t. true≢false (sym (eq_eq_z a b (same t)) ∙ e)) ∙ sym e
 
 -- a signed number that was passed on or stored, read back
 pub read_back : (w : Width) (z : ℤ) → mag z < 2 ^ hbits w → to_z w (of_z w z) ≡ z

@@ -7,7 +7,7 @@ use native.Mathlib.Decide.{ℕ_discrete}
 use lib.IntN.{ℤ, ◌+ℤ◌}
 use lib.Signed.{le_z, ≤ℤ_refl}
 use Rattle.whole.specs.Sum.{sum}
-use Rattle.whole.specs.Tests.{some}
+use Rattle.whole.specs.Tests.{some, eq_z}
 use Rattle.whole.proofs.Order.{le_z_true, le_le_z, ≤ℤ-antisym}
 
 -- ---- Bool
@@ -39,6 +39,18 @@ or_true_left a b e = ap (λ (t : Bool). t || b) e
 pub not_true_false : (t : Bool) → (t ≡ true → ⊥) → t ≡ false
 not_true_false true n = absurd (n refl)
 not_true_false false n = refl
+
+-- ---- two whole numbers are equal
+
+pub eq_z_true : (a b : ℤ) → eq_z a b ≡ true → a ≡ b
+unfolding eq_z
+eq_z_true a b e =
+    let h : (le_z a b ≡ true) × (le_z b a ≡ true) = and_true (le_z a b) (le_z b a) e in
+    ≤ℤ-antisym (le_z_true a b h.0) (le_z_true b a h.1)
+
+pub eq_eq_z : (a b : ℤ) → a ≡ b → eq_z a b ≡ true
+unfolding eq_z
+eq_eq_z a b e = rw e (ap₂ ◌&&◌ (le_le_z (≤ℤ_refl b)) (le_le_z (≤ℤ_refl b)))
 
 -- ---- some number below n passes
 

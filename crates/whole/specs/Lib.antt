@@ -4,3 +4,4 @@ pub mod Tests
 pub mod Lowest
 pub mod Tells
 pub mod Filled
+pub mod Firstly

@@ -22,7 +22,7 @@ loop-done-preserved g c =
       search rules,
       search rules,
       subst (Consumes _ _)
-          (take_more from (length c.loop-done.list - from) c.in_ok-count.count c.loop-done.list c.read.new.buf c.loop-done.invariant.1
-          c.in_ok-count.ensures.bound.0)
-          (Consumes-trans _ _ _ _ _ c.loop-done.invariant.2 c.in_ok-count.ensures.bytes.0),
+          (take_more from (length c.loop-done.list - from) c.in-Ok.count c.loop-done.list c.read.new.buf c.loop-done.invariant.1
+          c.in-Ok.ensures.bound.0)
+          (Consumes-trans _ _ _ _ _ c.loop-done.invariant.2 c.in-Ok.ensures.bytes.0),
     )

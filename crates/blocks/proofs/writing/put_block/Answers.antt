@@ -1,8 +1,8 @@
 -- `blocks::writing::put_block` meets its contract: the contents, then their check and two zeros behind them. Assumes nothing.
-use mathlib.Core.Path.{◌∙◌}
 use Prim.Native.Nat.{◌*◌}
 use native.Mathlib.Omega.{arith}
 use lib.ListN.{drop, length-take}
+use Rattle.blocks.specs.Blocks.{two}
 use Rattle.blocks.proofs.CheckLaws.{check_below}
 use Rattle.blocks.proofs.SealLaws.{block_filled}
 use Rattle.blocks.proofs.writing.put_block.Goals as goal
@@ -17,6 +17,8 @@ pub behind-requires : goal.behind-requires
 behind-requires c = check_below _ _ _ c.check-sum.ensures
 
 pub returns : goal.returns
+unfolding two
 returns c =
     let a = c.args in
-    block_filled a.b (drop (508 * a.b) a.contents.now) c.copy.ensures c.check-sum.ensures (c.copy_from_slice.ensures.after ∙ c.behind.ensures)
+    let written = rw c.behind.ensures at c.copy_from_slice.ensures.after in
+    block_filled a.b (drop (508 * a.b) a.contents.now) c.copy.ensures c.check-sum.ensures written

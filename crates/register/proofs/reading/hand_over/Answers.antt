@@ -1,6 +1,10 @@
 -- `register::reading::hand_over` meets its contract: each `return` is one case of 01's order. Assumes nothing.
 use Rattle.std.proofs.lemmas.Result.{err_from_is_err_and}
+use mathlib.Core.Path.{◌≡◌, subst}
+use mathlib.Core.List.{List}
 use native.Mathlib.Omega.{arith}
+use Rattle.std.proofs.Common.{take_all}
+use Rattle.whole.specs.Filled.{Filled}
 use Rattle.stack.proofs.Cases.{stack_stopped, strips_stopped}
 use Rattle.stack.proofs.Exact.{fit_exactly, whole_exactly}
 use Rattle.register.specs.Reading.{lent}
@@ -34,8 +38,13 @@ returns-in_err-judge_strips c =
     (strips_wrong accepted (record { for_entries = omega arith; for_coords = omega arith; for_strips = omega arith })
     (strips_stopped accepted.layers c.in_err-judge_strips.ensures))
 
+-- what was filled, under another name for the same list
+filled_with : {A : Type 0} {v w old new : List A} → Filled v old new → v ≡ w → Filled w old new
+filled_with {old = old} {new} f e = subst (λ v. Filled v old new) e f
+
 pub returns : goal.returns
 returns c =
     all_handed ((fit_exactly _).0 c.in_ok-judge_stack.ensures).0
     (record { for_entries = omega arith; for_coords = omega arith; for_strips = omega arith })
-    (whole_exactly.0 c.in_ok-judge_strips.ensures).1 c.fill_front.ensures c.fill_front-2.ensures c.fill_front-3.ensures
+    (whole_exactly.0 c.in_ok-judge_strips.ensures).1 (filled_with c.fill_front.ensures (grind (arith, take_all)))
+    c.fill_front-2.ensures c.fill_front-3.ensures

@@ -5,22 +5,22 @@ use borrow.Author.Tests.{ne_eqb}
 use Rattle.whole.proofs.Telling.{tells_false}
 use Rattle.stack.proofs.StripLaws.{strip_none, strip_a, strip_b, strip_small, strip_tells, other_count, strip_whole}
 use Rattle.stack.proofs.strips.is_strip.Goals as goal
-use Rattle.stack.proofs.strips.is_strip.Goals.{in-0, in-1}
+use Rattle.stack.proofs.strips.is_strip.Goals.{then-byte-eq0, else-byte-eq0}
 
 pub loop-byte-init : goal.loop-byte-init
 loop-byte-init c = (refl, strip_none)
 
-pub returns-in_default : goal.returns-in_default
-returns-in_default c = tells_false (λ s. omega (arith, strip_small s c.loop-byte.byte-index))
+pub returns-then-byte-gt1 : goal.returns-then-byte-gt1
+returns-then-byte-gt1 c = tells_false (λ s. omega (arith, strip_small s c.loop-byte.byte-index))
 
 pub loop-byte-preserved : goal.loop-byte-preserved
 loop-byte-preserved c =
     let l = c.args.part.now in
     let k = c.loop-byte.byte-index in
     let s = c.loop-byte.invariant.1 in
-    elim c.match-byte.branch [
-      | in-0 w ↦ (omega arith, strip_a l k c.loop-byte-test.true (omega arith) w.a-is w.b-is s)
-      | in-1 w ↦ (omega arith, strip_b l k c.loop-byte-test.true (omega arith) w.a-is w.b-is s)
+    elim c.if-byte-eq0.branch [
+      | then-byte-eq0 w ↦ (omega arith, strip_a l k c.loop-byte-test.true w.if-byte-eq0.true w.a-is w.b-is s)
+      | else-byte-eq0 w ↦ (omega arith, strip_b l k c.loop-byte-test.true (omega arith) w.a-is w.b-is s)
     ]
 
 pub returns-then-a-m : goal.returns-then-a-m

@@ -32,12 +32,12 @@ returns-then-j-upper c = full_upper (omega (arith, c.if-byte-gt1.false, c.if-byt
 
 pub overflow_add-value-2 : goal.overflow_add-value-2
 overflow_add-value-2 c =
-    let gain = crossed_as c.worth-2.ensures c.corner-a.ensures c.corner-b.ensures in
+    let gain = crossed_as c.worth-2.ensures c.corner-a-2.ensures c.corner-b-2.ensures in
     fits_holds w64 (gained c.requires B gain) tt
 
 pub returns : goal.returns
 returns c =
     let s = c.args.so_far in
-    let gain = crossed_as c.worth-2.ensures c.corner-a.ensures c.corner-b.ensures in
+    let gain = crossed_as c.worth-2.ensures c.corner-a-2.ensures c.corner-b-2.ensures in
     by_upper c.requires (omega (arith, c.if-byte-gt1.false, c.if-byte-eq0.false)) c.if-j-upper.false refl refl
     ((held w64 (gained c.requires B gain) tt).is ∙ ap (λ (v : ℤ). s.value +ℤ v) gain)
