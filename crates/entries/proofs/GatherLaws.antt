@@ -10,7 +10,7 @@ use lib.ListN.{length, take}
 use lib.Seq.{length-take-le, take-suc, take_all}
 use borrow.Author.Tests.{ltb-true, ltb-false}
 use Rattle.stack.specs.declared.Layer.{Layer}
-use Rattle.stack.specs.declared.by_value.Stack.{Stack}
+use Rattle.stack.specs.declared.Stack.{Stack}
 use Rattle.stack.specs.Entries.{no_layer, entry}
 use Rattle.stack.specs.Laid.{counting, stack_of, with_layer}
 use Rattle.stack.proofs.Laying.{one_more, counting_front}

@@ -8,7 +8,7 @@ use lib.ListN.{length, take, drop, set}
 use lib.Seq.{length-take-le, get_or-take, take_all}
 use Rattle.whole.proofs.Filling.{CopySo, copy_begun, copy_more, copy_done}
 use Rattle.stack.specs.declared.Layer.{Layer}
-use Rattle.stack.specs.declared.by_value.Stack.{Stack}
+use Rattle.stack.specs.declared.Stack.{Stack}
 use Rattle.stack.specs.Entries.{no_layer, entry}
 use Rattle.stack.specs.Laid.{laid, stack_of}
 use Rattle.stack.proofs.Laying.{counted, laid_long, laid_of}

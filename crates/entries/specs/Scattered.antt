@@ -2,7 +2,7 @@
 -- room for, and behind them what was there.
 use Rattle.std.specs.Prelude.{List, ◌++◌, ℕ, min, length, take, drop}
 use Rattle.stack.specs.declared.Layer.{Layer}
-use Rattle.stack.specs.declared.by_value.Stack.{Stack}
+use Rattle.stack.specs.declared.Stack.{Stack}
 use Rattle.stack.specs.Laid.{laid}
 
 abbrev pub written : Stack → ℕ → ℕ

@@ -18,7 +18,7 @@ use Rattle.whole.specs.Firstly.{firstly}
 use Rattle.whole.proofs.Firstly.{length_firstly, get_or_firstly, is_firstly}
 use Rattle.stack.specs.declared.Fit.{Fit}
 use Rattle.stack.specs.declared.Layer.{Layer}
-use Rattle.stack.specs.declared.by_value.Stack.{Stack}
+use Rattle.stack.specs.declared.Stack.{Stack}
 use Rattle.stack.specs.Entries.{no_layer, entry, steps, band_start}
 use Rattle.stack.specs.Faults.{LayersRight, StackJudged}
 use Rattle.stack.specs.Strips.{StripsJudged}

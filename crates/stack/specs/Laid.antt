@@ -2,7 +2,7 @@
 use Rattle.std.specs.Prelude.{cond, List, [], ℕ, ltb, length, take, set}
 use Rattle.whole.specs.Firstly.{firstly}
 use Rattle.stack.specs.declared.Layer.{Layer}
-use Rattle.stack.specs.declared.by_value.Stack.{Stack}
+use Rattle.stack.specs.declared.Stack.{Stack}
 use Rattle.stack.specs.Entries.{entry}
 
 -- as many as it counts: the first 20 from its array, past these empty ones. (Over 20 are refused by their number.)

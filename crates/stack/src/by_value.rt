@@ -3,15 +3,8 @@ ghost use Rattle.std.specs.Prelude.{◌≡◌, []};
 ghost use Rattle.stack.specs.Entries.{entry};
 ghost use Rattle.stack.specs.Laid.{laid, lends, counting, with_layer};
 
-use crate::Layer;
 use crate::layers::NONE;
-
-// The entries of a stack, by value: how many there are, and the first 20 of them.
-#[derive(Clone, Copy, Debug, PartialEq, Eq)]
-pub struct Stack {
-    pub layers: [Layer; 20],
-    pub count: usize,
-}
+use crate::{Layer, Stack};
 
 // A stack of so many layers, all of them empty yet.
 pub fn no_layers(count: usize) -> Stack

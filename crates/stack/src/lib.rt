@@ -1,7 +1,7 @@
 // A stack of layers over one coordinate list, and the strips of its bands. A stack is a lent slice of entries.
 #![tactic(auto)]
 
-pub use by_value::{Stack, no_layers, with_layer};
+pub use by_value::{no_layers, with_layer};
 pub use judging::judge_stack;
 pub use layers::{band_at, band_count, layer_at, trace_of};
 pub use strips::{is_strip, judge_strips};
@@ -17,6 +17,13 @@ mod strips;
 pub struct Layer {
     pub plane: i32,
     pub first: usize,
+    pub count: usize,
+}
+
+// The entries of a stack, by value: how many there are, and the first 20 of them.
+#[derive(Clone, Copy, Debug, PartialEq, Eq)]
+pub struct Stack {
+    pub layers: [Layer; 20],
     pub count: usize,
 }
 

@@ -2,7 +2,7 @@
 use mathlib.Core.Path.{sym, ◌∙◌}
 use native.Mathlib.Omega.{arith}
 use Rattle.stack.proofs.Laying.{lent_front, lends_all, lends_none}
-use Rattle.stack.proofs.by_value.Stack.entries.Goals as goal
+use Rattle.stack.proofs.Stack.entries.Goals as goal
 
 pub returns-then-self-le20 : goal.returns-then-self-le20
 returns-then-self-le20 c =
